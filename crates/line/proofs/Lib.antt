@@ -1,0 +1,5 @@
+pub mod Sizes
+pub mod Gathers
+pub mod Legal
+pub mod Levels
+pub mod Digits

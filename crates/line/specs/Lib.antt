@@ -1,0 +1,4 @@
+pub mod Depths
+pub mod Lines
+pub mod Symbols
+pub mod Scales
