@@ -3,3 +3,4 @@ pub mod Gathers
 pub mod Legal
 pub mod Levels
 pub mod Digits
+pub mod Units

@@ -26,6 +26,11 @@ cut-bits (Three cs) = 2
 abbrev pub payload-by : Cuts → (ℕ → ℕ) → List ℕ
 payload-by cuts levels = payload-of (cut-bits cuts) (λ k. value-of (cut-list cuts) (2 * levels k))
 
+-- the payload that a system finds, by the cuts it has where its run-in is found
+abbrev pub found-by : Option Cuts → (ℕ → ℕ) → Option (List ℕ)
+found-by None levels = None
+found-by (Some cuts) levels = Some (payload-by cuts levels)
+
 -- what was written of a payload: all of it, or nothing where the buffer has under 60 bytes
 abbrev pub gathered-into : ℕ → List ℕ → Option (List ℕ)
 gathered-into room p = cond (ltb room 60) None (Some p)

@@ -19,14 +19,14 @@ pub const RUN_IN: [u8; 2] = [0xeb, 0x52];
 pub const PAYLOAD_ROOM: usize = 60;
 
 // Whether a line may have so many samples.
-pub fn good_count(count: usize) -> bool
+pub(crate) fn good_count(count: usize) -> bool
     ensures answer { λ r. ⌜ r ≡ good-count count ⌝ }
 {
     count % SYMBOLS == 0 && (SYMBOLS <= count && count <= MOST_SAMPLES)
 }
 
 // Whether a payload begins EB 52.
-pub fn begins(payload: &[u8]) -> bool
+pub(crate) fn begins(payload: &[u8]) -> bool
     ensures answer { λ r. ⌜ r ≡ begins (now (payload .entry)) ⌝ }
 {
     match payload {
@@ -78,7 +78,7 @@ pub fn line_fault(depth: Depth, line: &[u16]) -> Option<Refusal>
 }
 
 // Whether a line can be read into a buffer of so many bytes.
-pub fn read_test(depth: Depth, line: &[u16], room: usize) -> Result<(), Refusal>
+pub(crate) fn read_test(depth: Depth, line: &[u16], room: usize) -> Result<(), Refusal>
     ensures answer { λ r. ⌜ r ≡ read-test (line-fault depth (now (line .entry))) room ⌝ }
 {
     if let Some(fault) = line_fault(depth, line) {

@@ -3,12 +3,15 @@ ghost use mathlib.Core.Path.{_≡_};
 ghost use mathlib.Core.List.{_++_};
 ghost use Prim.Native.Nat.{ℕ, _*_, _+_, _/_, _^_, _≤_, _<_};
 ghost use lib.ListN.{length, drop};
-ghost use Rattle.line.specs.Lines.{size-of, put};
+ghost use Rattle.line.specs.Lines.{size-of, put, line-fault, read-answer, read-buffer};
 ghost use Rattle.line.specs.Symbols.{Alphabet, level-at, value-of, gathered, payload-of};
-ghost use Rattle.line.specs.Scales.{payload-by, gathered-into};
+ghost use Rattle.line.specs.Scales.{payload-by, gathered-into, found-by};
 use crate::checks::PAYLOAD_ROOM;
+use crate::checks::read_test;
+use crate::depth::Depth;
 use crate::symbols::symbol;
 use crate::symbols::value;
+use refusal::Refusal;
 
 // The cuts between the values of a symbol: one between two values, three between four. A symbol is read as the number of
 // cuts that its doubled level reaches.
@@ -45,7 +48,7 @@ fn gather_at(line: &[u16], cuts: &[u32], bits: usize, payload: &mut [u8])
 }
 
 // Writes the payload that the cuts read to the front of the buffer, and answers its length; a buffer under 60 bytes stays.
-pub fn gather(line: &[u16], cuts: Cuts, payload: &mut [u8]) -> Option<usize>
+fn gather(line: &[u16], cuts: Cuts, payload: &mut [u8]) -> Option<usize>
     ensures answer { λ r. ⌜ r ≡ size-of (gathered-into (length (now (payload .entry))) (payload-by cuts (level-at (now (line .entry))))) ⌝ }
     ensures payload { λ _. ⌜ now (payload .exit) ≡ put (gathered-into (length (now (payload .entry))) (payload-by cuts (level-at (now (line .entry))))) (now (payload .entry)) ⌝ }
 {
@@ -61,5 +64,17 @@ pub fn gather(line: &[u16], cuts: Cuts, payload: &mut [u8]) -> Option<usize>
             gather_at(line, &cuts, 2, payload);
             Some(60)
         }
+    }
+}
+
+// Reads a line by the cuts that a system has for it, if it has found its run-in.
+pub fn read_by(depth: Depth, line: &[u16], cuts: Option<Cuts>, payload: &mut [u8]) -> Result<Option<usize>, Refusal>
+    ensures answer { λ r. ⌜ r ≡ read-answer (line-fault depth (now (line .entry))) (found-by cuts (level-at (now (line .entry)))) (length (now (payload .entry))) ⌝ }
+    ensures payload { λ r. ⌜ now (payload .exit) ≡ read-buffer r (found-by cuts (level-at (now (line .entry)))) (now (payload .entry)) ⌝ }
+{
+    read_test(depth, line, payload.len())?;
+    match cuts {
+        Some(cuts) => Ok(gather(line, cuts, payload)),
+        None => Ok(None),
     }
 }
