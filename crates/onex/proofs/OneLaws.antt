@@ -78,7 +78,7 @@ pub record Measured (w z o D Z O : ℕ) : Type 0 where
   pub gap : w * z + 4 * D < w * o
 
 -- the levels at the zeros and the ones of the run-in
-run-in-levels : (w D z o : ℕ) (p : List ℕ) (S : ℕ → ℕ) → begins p ≡ true → Follows w D 1 (z ∷ o ∷ []) p S →
+pub run-in-levels : (w D z o : ℕ) (p : List ℕ) (S : ℕ → ℕ) → begins p ≡ true → Follows w D 1 (z ∷ o ∷ []) p S →
     ((i : ℕ) → i < 7 → Close w D z (S (getD zero-places i 0))) × ((i : ℕ) → i < 9 → Close w D o (S (getD one-places i 0)))
 run-in-levels w D z o p S front follows =
     let bits = bits-of p front in
@@ -150,7 +150,7 @@ one-reading d line p c =
     let some = weight-pos (length line) (legal-count d line (c .5 .legal)) in
     one-reads (unit-of d) w (w * c .2) (c .0) (c .1) p (level-at line) (c .3) (c .5 .payload) (line-follows d 1 (c .0 ∷ c .1 ∷ []) (c .2) line p (c .5)) (wide-enough w (c .0) (c .1) (c .2) some (c .4))
 
-pair-below : (z o m : ℕ) → 0 < m → z < m → o < m → (v : ℕ) → getD (z ∷ o ∷ []) v 0 < m
+pub pair-below : (z o m : ℕ) → 0 < m → z < m → o < m → (v : ℕ) → getD (z ∷ o ∷ []) v 0 < m
 pair-below z o m a b c zero = b
 pair-below z o m a b c (suc zero) = c
 pair-below z o m a b c (suc (suc v)) = a

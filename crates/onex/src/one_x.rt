@@ -16,7 +16,7 @@ use system::system::LineSystem;
 // 1X at the depth of a pair of levels, which it draws with. What it reads doesn't depend on the pair.
 #[derive(Clone, Copy)]
 pub struct OneX {
-    pub levels: Levels,
+    pub(crate) levels: Levels,
 }
 
 pub impl LineSystem for OneX as OneXSystem {

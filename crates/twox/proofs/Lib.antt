@@ -1,0 +1,5 @@
+pub mod Runs
+pub mod Gaps
+pub mod Table
+pub mod TwoLaws
+pub mod Apart
