@@ -35,7 +35,7 @@ digits-upto b x (suc n) small h =
     let next : b * suc n ≡ b * n + b = mul-suc b n in
     let m : ℕ = 8 - b * suc n in
     let here : gathered (2 ^ b) (digit b x) n ≡ x / 2 ^ m / 2 ^ b =
-        digits-upto b x n small (omega arith) ∙ ap (λ k. x / 2 ^ k) (let e : 8 - b * n ≡ m + b = omega arith in e) ∙ sym (shr-shr x m b) in
+    digits-upto b x n small (omega arith) ∙ ap (λ k. x / 2 ^ k) (let e : 8 - b * n ≡ m + b = omega arith in e) ∙ sym (shr-shr x m b) in
     let last : digit b x n ≡ x / 2 ^ m % 2 ^ b = ap (λ k. x / 2 ^ (8 - b * k) % 2 ^ b) (add-one n) in
     ap (λ k. k * 2 ^ b + digit b x n) here ∙ ap (λ k. x / 2 ^ m / 2 ^ b * 2 ^ b + k) last ∙ div-add-mod' (x / 2 ^ m) (2 ^ b)
 
@@ -63,9 +63,9 @@ pub payload-is : (b : ℕ) → 1 ≤ b → b ≤ 2 → (f : ℕ → ℕ) (p : Li
     ((k : ℕ) → k < 240 → f k ≡ symbol-of b p k) → payload-of b f ≡ p
 payload-is b low high f p size bytes same =
     sym (fill-by-all (λ j. gathered (2 ^ b) (λ t. f (j * (8 / b) + t)) (8 / b)) p (240 / (8 / b)) 0 size
-      (λ j h. sym (gathered-same (2 ^ b) (λ t. f (j * (8 / b) + t)) (digit b (getD p j 0)) (8 / b)
-          (λ t l. same (j * (8 / b) + t) (symbol-place b low high j t h l) ∙ symbol-in b p j t l)
-        ∙ gathered-digits b low high (getD p j 0) (all-getD (λ x. x < 256) p j 0 (omega arith) bytes))))
+    (λ j h. sym (gathered-same (2 ^ b) (λ t. f (j * (8 / b) + t)) (digit b (getD p j 0)) (8 / b)
+    (λ t l. same (j * (8 / b) + t) (symbol-place b low high j t h l) ∙ symbol-in b p j t l)
+    ∙ gathered-digits b low high (getD p j 0) (all-getD (λ x. x < 256) p j 0 (omega arith) bytes))))
 
 -- what values write consists of bytes
 pub payload-drawable : (b : ℕ) → 1 ≤ b → b ≤ 2 → (f : ℕ → ℕ) → ((k : ℕ) → f k < 2 ^ b) → begins (payload-of b f) ≡ true →
@@ -76,6 +76,6 @@ payload-drawable b low high f small front =
       size = eq-eqb _ _ size;
       front = front;
       bytes = all-from-getD (λ x. x < 256) (payload-of b f) 0
-        (λ j h. subst (λ (x : ℕ). x < 256) (sym (getD-map-counting (λ j. gathered (2 ^ b) (λ t. f (j * (8 / b) + t)) (8 / b)) 0 (240 / (8 / b)) j j 0 (omega arith) (omega arith)))
+          (λ j h. subst (λ (x : ℕ). x < 256) (sym (getD-map-counting (λ j. gathered (2 ^ b) (λ t. f (j * (8 / b) + t)) (8 / b)) 0 (240 / (8 / b)) j j 0 (omega arith) (omega arith)))
           (subst (λ (m : ℕ). gathered (2 ^ b) (λ t. f (j * (8 / b) + t)) (8 / b) < m) (whole-byte b low high) (gathered-below b (λ t. f (j * (8 / b) + t)) (8 / b) (λ t. small _))));
     }

@@ -41,5 +41,6 @@ most-each (x ∷ xs) a (suc i) h = most-each xs (max a x) i (omega arith)
 pub legal-count : (d : Depth) (line : List ℕ) → line-fault d line ≡ None → good-count (length line) ≡ true
 legal-count d line none =
     elim (cases-bool (good-count (length line))) [
-      inl e ↦ e
-    | inr e ↦ (let bad : Some (SampleCount (length line)) ≡ None = sym (cond-false _ _ _ e) ∙ none in cc) ]
+      | inl e ↦ e
+      | inr e ↦ (let bad : Some (SampleCount (length line)) ≡ None = sym (cond-false _ _ _ e) ∙ none in cc)
+    ]

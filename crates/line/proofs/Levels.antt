@@ -62,14 +62,14 @@ near-follows b levels line p e ok near k h =
     let within : k * n + n ≤ length line = inside k (length line) h ok in
     let long : length (take n (drop (k * n) line)) ≡ n = length-take-le n (drop (k * n) line) (omega (arith, length-drop (k * n) line)) in
     let each : (i : ℕ) → i < length (take n (drop (k * n) line)) → Within e (getD (take n (drop (k * n) line)) i 0) (getD levels (symbol-of b p k) 0) =
-        (λ i l.
-          let less : i < n = omega arith in
-          let read : getD (take n (drop (k * n) line)) i 0 ≡ getD line (k * n + i) 0 = getD-take n (drop (k * n) line) i 0 less ∙ getD-drop (k * n) line i 0 in
-          let made : getD (drawn-by b levels p (length line)) (k * n + i) 0 ≡ getD levels (symbol-of b p k) 0 =
-              getD-map-counting (λ i. getD levels (symbol-of b p (symbol-at (length line) i)) 0) 0 (length line) (k * n + i) (k * n + i) 0 (omega arith) (omega arith)
-              ∙ ap (λ m. getD levels (symbol-of b p m) 0) (div-mul-add k n i less) in
-          let h = near (k * n + i) (omega arith) in
-          (omega arith, omega arith)) in
+    (λ i l.
+    let less : i < n = omega arith in
+    let read : getD (take n (drop (k * n) line)) i 0 ≡ getD line (k * n + i) 0 = getD-take n (drop (k * n) line) i 0 less ∙ getD-drop (k * n) line i 0 in
+    let made : getD (drawn-by b levels p (length line)) (k * n + i) 0 ≡ getD levels (symbol-of b p k) 0 =
+    getD-map-counting (λ i. getD levels (symbol-of b p (symbol-at (length line) i)) 0) 0 (length line) (k * n + i) (k * n + i) 0 (omega arith) (omega arith)
+    ∙ ap (λ m. getD levels (symbol-of b p m) 0) (div-mul-add k n i less) in
+    let h = near (k * n + i) (omega arith) in
+    (omega arith, omega arith)) in
     subst (λ (m : ℕ). Close m (m * e) (getD levels (symbol-of b p k) 0) (level-at line k)) long (sum-close (take n (drop (k * n) line)) e (getD levels (symbol-of b p k) 0) each)
 
 pub line-follows : (d : Depth) (b : ℕ) (levels : List ℕ) (e : ℕ) (line p : List ℕ) → Near d b levels e line p →

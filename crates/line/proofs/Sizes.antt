@@ -20,13 +20,13 @@ use lib.Pow.{pow-mono, pow-add}
 use Rattle.std.proofs.shelf.Bits.{mul-le, div-below}
 use Rattle.std.proofs.shelf.Tests.{cases-eq, and-parts, eqb-true, leb-true, cond-true, cond-false, cases-bool, cases-lt}
 
-
 -- what holds at one and at two bits to a symbol
 pub by-bits : (P : ℕ → Type 0) → P 1 → P 2 → (b : ℕ) → 1 ≤ b → b ≤ 2 → P b
 by-bits P one two b low high =
     elim (cases-eq b 1) [
-      inl e ↦ subst P (sym e) one
-    | inr ne ↦ (let e : 2 ≡ b = omega arith in subst P e two) ]
+      | inl e ↦ subst P (sym e) one
+      | inr ne ↦ (let e : 2 ≡ b = omega arith in subst P e two)
+    ]
 
 pub byte-place : (b : ℕ) → 1 ≤ b → b ≤ 2 → (k : ℕ) → k < 240 → k / (8 / b) < 240 / (8 / b)
 byte-place = by-bits (λ b. (k : ℕ) → k < 240 → k / (8 / b) < 240 / (8 / b)) (λ k h. omega arith) (λ k h. omega arith)
@@ -91,13 +91,15 @@ unfolding level-at
 symbol-none line k out =
     let w = weight (length line) in
     elim (cases-bool (good-count (length line))) [
-      inr bad ↦ (let z : w ≡ 0 = weight-bad (length line) bad in let n : k * w ≡ 0 = ap (λ m. k * m) z ∙ mul-zero k in absurd (omega arith))
-    | inl ok ↦
-        elim (cases-lt k 240) [
-          inl lt ↦ (let h = inside k (length line) lt ok in absurd (omega arith))
-        | inr ge ↦
-            (let all : length line ≤ k * w = omega (arith, mul-le 240 w k w ge (le-refl w), weight-whole (length line) ok) in
-             sym (ap (λ l. sum (take w l)) (drop-all (k * w) line all) ∙ ap sum (take-nil w))) ] ]
+      | inr bad ↦ (let z : w ≡ 0 = weight-bad (length line) bad in let n : k * w ≡ 0 = ap (λ m. k * m) z ∙ mul-zero k in absurd (omega arith))
+      | inl ok ↦
+          elim (cases-lt k 240) [
+            | inl lt ↦ (let h = inside k (length line) lt ok in absurd (omega arith))
+            | inr ge ↦
+                (let all : length line ≤ k * w = omega (arith, mul-le 240 w k w ge (le-refl w), weight-whole (length line) ok) in
+                sym (ap (λ l. sum (take w l)) (drop-all (k * w) line all) ∙ ap sum (take-nil w)))
+          ]
+    ]
 
 -- the symbol of a sample
 pub symbol-below : (count i : ℕ) → good-count count ≡ true → i < count → symbol-at count i < 240

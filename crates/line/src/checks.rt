@@ -9,6 +9,7 @@ use refusal::Refusal;
 
 // Symbols in a line, and the most samples that one has.
 pub const SYMBOLS: usize = 240;
+
 const MOST_SAMPLES: usize = 3840;
 
 // Samples lie below this many units.
@@ -16,6 +17,7 @@ const SAMPLE_LIMIT: u16 = 256;
 
 // What a payload begins with, and the room that a reader asks for one.
 pub const RUN_IN: [u8; 2] = [0xeb, 0x52];
+
 pub const PAYLOAD_ROOM: usize = 60;
 
 // Whether a line may have so many samples.

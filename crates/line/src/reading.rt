@@ -68,7 +68,12 @@ fn gather(line: &[u16], cuts: Cuts, payload: &mut [u8]) -> Option<usize>
 }
 
 // Reads a line by the cuts that a system has for it, if it has found its run-in.
-pub fn read_by(depth: Depth, line: &[u16], cuts: Option<Cuts>, payload: &mut [u8]) -> Result<Option<usize>, Refusal>
+pub fn read_by(
+    depth: Depth,
+    line: &[u16],
+    cuts: Option<Cuts>,
+    payload: &mut [u8],
+) -> Result<Option<usize>, Refusal>
     ensures answer { λ r. ⌜ r ≡ read-answer (line-fault depth (now (line .entry))) (found-by cuts (level-at (now (line .entry)))) (length (now (payload .entry))) ⌝ }
     ensures payload { λ r. ⌜ now (payload .exit) ≡ read-buffer r (found-by cuts (level-at (now (line .entry)))) (now (payload .entry)) ⌝ }
 {

@@ -12,7 +12,11 @@ pub fn weight(count: usize) -> u32
     ensures answer { λ r. ⌜ r ≡ weight count ⌝ }
     ensures small { λ r. ⌜ r ≤ 40 ⌝ }
 {
-    if good_count(count) { (count / SYMBOLS) as u32 } else { 0 }
+    if good_count(count) {
+        (count / SYMBOLS) as u32
+    } else {
+        0
+    }
 }
 
 // The sum of the samples of one symbol.

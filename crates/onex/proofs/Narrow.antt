@@ -66,15 +66,15 @@ sample ls i h = getD-map-counting (λ i. getD ls (symbol-of 1 empty (symbol-at 2
 shrunk-near : Near Eight 1 (4 ∷ 20 ∷ []) 4 shrunk empty
 unfolding level-of
 shrunk-near = record {
-      legal = shrunk-legal;
-      payload = empty-drawable;
-      near = λ i h.
-        let less : i < 240 = omega (arith, shrunk-length) in
-        let a = sample (8 ∷ 16 ∷ []) i less in
-        let b = ap (λ n. getD (drawn-by 1 (4 ∷ 20 ∷ []) empty n) i 0) shrunk-length ∙ sample (4 ∷ 20 ∷ []) i less in
-        let both = levels-within (symbol-of 1 empty (symbol-at 240 i)) in
-        (omega arith, omega arith);
-    }
+  legal = shrunk-legal;
+  payload = empty-drawable;
+  near = λ i h.
+      let less : i < 240 = omega (arith, shrunk-length) in
+      let a = sample (8 ∷ 16 ∷ []) i less in
+      let b = ap (λ n. getD (drawn-by 1 (4 ∷ 20 ∷ []) empty n) i 0) shrunk-length ∙ sample (4 ∷ 20 ∷ []) i less in
+      let both = levels-within (symbol-of 1 empty (symbol-at 240 i)) in
+      (omega arith, omega arith);
+}
 
 exact : Near Eight 1 (8 ∷ 16 ∷ []) 0 shrunk empty
 exact = record { legal = shrunk-legal; payload = empty-drawable; near = λ i h. drawn-near 1 (8 ∷ 16 ∷ []) empty 240 i }

@@ -81,11 +81,12 @@ pub record Measured (w z o D Z O : ℕ) : Type 0 where
 pub run-in-levels : (w D z o : ℕ) (p : List ℕ) (S : ℕ → ℕ) → begins p ≡ true → Follows w D 1 (z ∷ o ∷ []) p S →
     ((i : ℕ) → i < 7 → Close w D z (S (getD zero-places i 0))) × ((i : ℕ) → i < 9 → Close w D o (S (getD one-places i 0)))
 run-in-levels w D z o p S front follows =
-    let bits = bits-of p front in
-    ((λ i h. subst (λ (u : ℕ). Close w D (getD (z ∷ o ∷ []) u 0) (S (getD zero-places i 0))) (all-are-at (symbol-of 1 p) 0 zero-places (bits .0) i h)
-        (follows (getD zero-places i 0) (places-low zero-places refl i h))),
-     (λ i h. subst (λ (u : ℕ). Close w D (getD (z ∷ o ∷ []) u 0) (S (getD one-places i 0))) (all-are-at (symbol-of 1 p) 1 one-places (bits .1) i h)
-        (follows (getD one-places i 0) (places-low one-places refl i h))))
+    let bits = bits-of p front in (
+      (λ i h. subst (λ (u : ℕ). Close w D (getD (z ∷ o ∷ []) u 0) (S (getD zero-places i 0))) (all-are-at (symbol-of 1 p) 0 zero-places (bits .0) i h)
+          (follows (getD zero-places i 0) (places-low zero-places refl i h))),
+      (λ i h. subst (λ (u : ℕ). Close w D (getD (z ∷ o ∷ []) u 0) (S (getD one-places i 0))) (all-are-at (symbol-of 1 p) 1 one-places (bits .1) i h)
+          (follows (getD one-places i 0) (places-low one-places refl i h))),
+    )
 
 pub one-measures : (w D z o : ℕ) (p : List ℕ) (S : ℕ → ℕ) → begins p ≡ true → Follows w D 1 (z ∷ o ∷ []) p S → w * z + 4 * D < w * o →
     Measured w z o D (measured S .0) (measured S .1)
@@ -135,7 +136,7 @@ one-reads q w D z o p S ok draw follows wide =
     let far = mul-le-mul-left w (pair .apart) in
     let run : one-run q w S ≡ true = lt-ltb _ _ (omega (arith, mul-add w z (16 * q))) in
     let each : (k : ℕ) → k < 240 → one-value S k ≡ symbol-of 1 p k =
-        (λ k h. one-symbol w z o D (measured S .0) (measured S .1) (S k) (symbol-of 1 p k) m (mod-lt _ (omega arith)) (follows k h)) in
+    (λ k h. one-symbol w z o D (measured S .0) (measured S .1) (S k) (symbol-of 1 p k) m (mod-lt _ (omega arith)) (follows k h)) in
     ap (λ c. found-by c S) (cond-true _ _ _ run) ∙ ap Some (payload-is 1 (omega arith) (omega arith) (one-value S) p (eqb-true (length p) 30 (draw .size)) (draw .bytes) each)
 
 -- the distance of the levels, by the tolerance
@@ -160,20 +161,26 @@ pub one-drawing : (d : Depth) (z o : ℕ) → allowed (unit-of d) z o ≡ true �
 one-drawing d z o ok p count draw good =
     let u = unit-pos d in
     let pair = allowed-pair (unit-of d) z o ok in
-    let levels : (v : ℕ) → getD (z ∷ o ∷ []) v 0 < 256 * unit-of d = pair-below z o (256 * unit-of d) (omega arith) (omega arith) (omega arith) in
-    (z, o, 0, ok, (let h : 4 * 0 < o - z = omega arith in h), record {
-      legal = drawn-legal d 1 (z ∷ o ∷ []) p count good levels;
-      payload = draw;
-      near = λ i h. drawn-near 1 (z ∷ o ∷ []) p count i;
-    })
+    let levels : (v : ℕ) → getD (z ∷ o ∷ []) v 0 < 256 * unit-of d = pair-below z o (256 * unit-of d) (omega arith) (omega arith) (omega arith) in (
+      z,
+      o,
+      0,
+      ok,
+      (let h : 4 * 0 < o - z = omega arith in h),
+      record {
+        legal = drawn-legal d 1 (z ∷ o ∷ []) p count good levels;
+        payload = draw;
+        near = λ i h. drawn-near 1 (z ∷ o ∷ []) p count i;
+      },
+    )
 
 -- values that are 0 and 1 at the places of the run-in write EB 52
 written : (f : ℕ → ℕ) → ((i : ℕ) → i < 7 → f (getD zero-places i 0) ≡ 0) → ((i : ℕ) → i < 9 → f (getD one-places i 0) ≡ 1) → begins (payload-of 1 f) ≡ true
 written f zeros ones =
     let one : getD (payload-of 1 f) 0 0 ≡ 235 =
-        omega (arith, ones 0 (omega arith), ones 1 (omega arith), ones 2 (omega arith), zeros 0 (omega arith), ones 3 (omega arith), zeros 1 (omega arith), ones 4 (omega arith), ones 5 (omega arith)) in
+    omega (arith, ones 0 (omega arith), ones 1 (omega arith), ones 2 (omega arith), zeros 0 (omega arith), ones 3 (omega arith), zeros 1 (omega arith), ones 4 (omega arith), ones 5 (omega arith)) in
     let two : getD (payload-of 1 f) 1 0 ≡ 82 =
-        omega (arith, zeros 2 (omega arith), ones 6 (omega arith), zeros 3 (omega arith), ones 7 (omega arith), zeros 4 (omega arith), zeros 5 (omega arith), ones 8 (omega arith), zeros 6 (omega arith)) in
+    omega (arith, zeros 2 (omega arith), ones 6 (omega arith), zeros 3 (omega arith), ones 7 (omega arith), zeros 4 (omega arith), zeros 5 (omega arith), ones 8 (omega arith), zeros 6 (omega arith)) in
     and-from _ _ (eq-eqb _ 235 one) (eq-eqb _ 82 two)
 
 -- the levels of a run-in that is found write EB 52
@@ -190,13 +197,14 @@ one-begins q w S run =
 pub one-answers : (q w : ℕ) (S : ℕ → ℕ) (p : List ℕ) → found-by (one-cuts q w S) S ≡ Some p → Drawable (λ n. eqb n 30) p
 one-answers q w S p found =
     elim (cases-bool (one-run q w S)) [
-      inl run ↦
-        (let e : Some (payload-of 1 (one-value S)) ≡ Some p = sym (ap (λ c. found-by c S) (cond-true _ _ _ run)) ∙ found in
-         let same : payload-of 1 (one-value S) ≡ p = cc in
-         let few : (k : ℕ) → one-value S k < 2 = λ k. omega (arith, countBy-le-length (λ c. leb c (2 * S k)) ((measured S .0 + measured S .1) ∷ [])) in
-         subst (Drawable (λ n. eqb n 30)) same (payload-drawable 1 (omega arith) (omega arith) (one-value S) few (one-begins q w S run)))
-    | inr miss ↦
-        (let e : None ≡ Some p = sym (ap (λ c. found-by c S) (cond-false _ _ _ miss)) ∙ found in
-         let z : _≡_ {A = ℕ} 0 1 = cc in
-         let none : ⊥ = omega arith in
-         absurd none) ]
+      | inl run ↦
+          (let e : Some (payload-of 1 (one-value S)) ≡ Some p = sym (ap (λ c. found-by c S) (cond-true _ _ _ run)) ∙ found in
+          let same : payload-of 1 (one-value S) ≡ p = cc in
+          let few : (k : ℕ) → one-value S k < 2 = λ k. omega (arith, countBy-le-length (λ c. leb c (2 * S k)) ((measured S .0 + measured S .1) ∷ [])) in
+          subst (Drawable (λ n. eqb n 30)) same (payload-drawable 1 (omega arith) (omega arith) (one-value S) few (one-begins q w S run)))
+      | inr miss ↦
+          (let e : None ≡ Some p = sym (ap (λ c. found-by c S) (cond-false _ _ _ miss)) ∙ found in
+          let z : _≡_ {A = ℕ} 0 1 = cc in
+          let none : ⊥ = omega arith in
+          absurd none)
+    ]

@@ -41,10 +41,19 @@ pub impl LineSystem for OneX as OneXSystem {
     }
 
     fn draw(&self, payload: &[u8], line: &mut [u16]) -> Result<(), Refusal> {
-        draw(Palette::Two([self.levels.zero, self.levels.one]), payload, line)
+        draw(
+            Palette::Two([self.levels.zero, self.levels.one]),
+            payload,
+            line,
+        )
     }
 
     fn read(&self, line: &[u16], payload: &mut [u8]) -> Result<Option<usize>, Refusal> {
-        read_by(self.levels.depth, line, cuts(self.levels.depth, line), payload)
+        read_by(
+            self.levels.depth,
+            line,
+            cuts(self.levels.depth, line),
+            payload,
+        )
     }
 }

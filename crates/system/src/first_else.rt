@@ -15,6 +15,7 @@ use refusal::Refusal;
 // second carries. Every value of a type of this trait is such a pair.
 pub trait Ranked {
     type First: LineSystem;
+
     type Second: LineSystem;
 
     ghost first: { Self → Self·First };
@@ -40,13 +41,13 @@ pub struct FirstElse<P: Ranked> {
 }
 
 impl<P: Ranked> FirstElse<P> {
-    pub fn new(pair: P) -> FirstElse<P>
+    pub(crate) fn new(pair: P) -> FirstElse<P>
         ensures answer { λ r. ⌜ r .pair ≡ pair ⌝ }
     {
         FirstElse { pair }
     }
 
-    pub fn pair(&self) -> &P
+    pub(crate) fn pair(&self) -> &P
         ensures answer { λ r. ⌜ now r ≡ now (self .entry) .pair ⌝ }
     {
         &self.pair

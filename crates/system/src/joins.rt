@@ -21,7 +21,10 @@ pub trait Joins<B: LineSystem>: Yields<B> + Sized {
 }
 
 // First, else second, of two systems of one depth; the first finds no run-in in a line that the second carries.
-pub fn first_else<A: Joins<B>, B: LineSystem>(first: A, second: B) -> Result<FirstElse<A::Pair>, Refusal>
+pub fn first_else<A: Joins<B>, B: LineSystem>(
+    first: A,
+    second: B,
+) -> Result<FirstElse<A::Pair>, Refusal>
     ensures answer { λ r. ⌜ elim r [ Ok s ↦ (Pair·Ranked .first (s .pair) ≡ first) × (Pair·Ranked .second (s .pair) ≡ second) | Err e ↦ (e ≡ Depth) × (A·LineSystem .depth first ≡ B·LineSystem .depth second → ⊥) ] ⌝ }
     ensures apart { λ r. ⌜ elim r [ Ok s ↦ ((line p : List ℕ) → B·LineSystem .carries second line p → A·LineSystem .found first line ≡ None) | Err e ↦ Unit {0} ] ⌝ }
 {

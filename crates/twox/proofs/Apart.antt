@@ -30,7 +30,7 @@ none-in-levels : (q r w D : ℕ) (levels p : List ℕ) (S : ℕ → ℕ) → Rig
 none-in-levels q r w D levels p S right run follows less =
     let g = 73 * r in
     let near : (k v : ℕ) → k < 8 → getD two-run k 0 ≡ v → Close w D (getD levels v 0) (S k) =
-        (λ k v h e. subst (λ (u : ℕ). Close w D (getD levels u 0) (S k)) (runs-at (symbol-of 2 p) two-run 0 run k k h (omega arith) ∙ e) (follows k (omega arith))) in
+    (λ k v h e. subst (λ (u : ℕ). Close w D (getD levels u 0) (S k)) (runs-at (symbol-of 2 p) two-run 0 run k k h (omega arith) ∙ e) (follows k (omega arith))) in
     let high = near 3 3 (omega arith) (let e : getD two-run 3 0 ≡ 3 = omega arith in e) in
     let low = near 6 0 (omega arith) (let e : getD two-run 6 0 ≡ 0 = omega arith in e) in
     let gap : getD levels 3 0 ≡ getD levels 0 0 + 3 * g = even-level g levels (right .gaps) 3 (omega (arith, right .four)) in

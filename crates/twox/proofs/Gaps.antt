@@ -54,9 +54,9 @@ even-value : (w g a D S u : ℕ) (ls : List ℕ) → even-after g a ls ≡ true 
 even-value w g a D S u ls even less top close =
     let count = length-cuts-after w a ls in
     let level : (v : ℕ) → v ≤ length ls → w * getD (a ∷ ls) v 0 ≡ w * a + v * (w * g) =
-        (λ v h. ap (λ l. w * l) (even-after-level g a ls even v (omega arith)) ∙ mul-add w a (v * g) ∙ ap (λ m. w * a + m) (mul-left-comm w v g)) in
+    (λ v h. ap (λ l. w * l) (even-after-level g a ls even v (omega arith)) ∙ mul-add w a (v * g) ∙ ap (λ m. w * a + m) (mul-left-comm w v g)) in
     let cut : (v : ℕ) → v < length ls → getD (cuts-after w a ls) v 0 ≡ (w * a + v * (w * g)) + (w * a + suc v * (w * g)) =
-        (λ v h. getD-cuts-after w a ls v h ∙ mul-add w _ _ ∙ omega (arith, level v (omega arith), level (suc v) (omega arith))) in
+    (λ v h. getD-cuts-after w a ls v h ∙ mul-add w _ _ ∙ omega (arith, level v (omega arith), level (suc v) (omega arith))) in
     value-is (cuts-after w a ls) (2 * S) u (omega arith)
     (λ v h l. let up = mul-le (suc v) (w * g) u (w * g) (omega arith) (le-refl _) in omega (arith, cut v (omega arith), level u top, suc-mul v (w * g)))
     (λ v h l. let up = mul-le u (w * g) v (w * g) l (le-refl _) in omega (arith, cut v (omega arith), level u top, suc-mul v (w * g)))

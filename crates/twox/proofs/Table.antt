@@ -79,5 +79,6 @@ pub two-below : (d : Depth) (v : ℕ) → getD (two-levels d) v 0 < 256 * unit-o
 two-below d v =
     let some = unit-pos d in
     elim (cases-lt v 4) [
-      inl lt ↦ (let up = mul-le (16 + 73 * v) (unit-of d) 235 (unit-of d) (omega arith) (let same : unit-of d ≤ unit-of d = omega arith in same) in omega (arith, two-level d v lt))
-    | inr ge ↦ omega (arith, getD-past (two-levels d) v 0 (omega (arith, two-right d .four))) ]
+      | inl lt ↦ (let up = mul-le (16 + 73 * v) (unit-of d) 235 (unit-of d) (omega arith) (let same : unit-of d ≤ unit-of d = omega arith in same) in omega (arith, two-level d v lt))
+      | inr ge ↦ omega (arith, getD-past (two-levels d) v 0 (omega (arith, two-right d .four)))
+    ]

@@ -44,7 +44,7 @@ pub two-reads : (q w D : ℕ) (levels p : List ℕ) (S : ℕ → ℕ) → Right 
     found-by (two-cuts levels w S) S ≡ Some p
 two-reads q w D levels p S right draw follows less =
     let each : (k : ℕ) → k < 240 → two-value levels w S k ≡ symbol-of 2 p k =
-        (λ k h. let small : symbol-of 2 p k < 4 = mod-lt _ (omega arith) in even-read w (73 * q) D (S k) (symbol-of 2 p k) levels (right .gaps) less (omega (arith, right .four)) (follows k h)) in
+    (λ k h. let small : symbol-of 2 p k < 4 = mod-lt _ (omega arith) in even-read w (73 * q) D (S k) (symbol-of 2 p k) levels (right .gaps) less (omega (arith, right .four)) (follows k h)) in
     let run : runs-as (two-value levels w S) 0 two-run ≡ true = runs-same (two-value levels w S) (symbol-of 2 p) two-run 0 (λ j h. each j (omega arith)) ∙ run-of p (draw .front) in
     ap (λ c. found-by c S) (cond-true _ _ _ run) ∙ ap Some (payload-is 2 (omega arith) (omega arith) (two-value levels w S) p (eqb-true (length p) 60 (draw .size)) (draw .bytes) each)
 
@@ -60,12 +60,15 @@ two-reading d line p c =
 
 pub two-drawing : (d : Depth) (p : List ℕ) (count : ℕ) → Drawable (λ n. eqb n 60) p → good-count count ≡ true → two-carries d (drawn-by 2 (two-levels d) p count) p
 two-drawing d p count draw ok =
-    let u = unit-pos d in
-    (0, (let h : 2 * 0 < 73 * unit-of d = omega arith in h), record {
-      legal = drawn-legal d 2 (two-levels d) p count ok (two-below d);
-      payload = draw;
-      near = λ i h. drawn-near 2 (two-levels d) p count i;
-    })
+    let u = unit-pos d in (
+      0,
+      (let h : 2 * 0 < 73 * unit-of d = omega arith in h),
+      record {
+        legal = drawn-legal d 2 (two-levels d) p count ok (two-below d);
+        payload = draw;
+        near = λ i h. drawn-near 2 (two-levels d) p count i;
+      },
+    )
 
 -- the values of the run-in write EB 52
 begins-by : (f : ℕ → ℕ) → runs-as f 0 two-run ≡ true → begins (payload-of 2 f) ≡ true
@@ -80,13 +83,14 @@ pub two-answers : (levels : List ℕ) (w : ℕ) (S : ℕ → ℕ) (p : List ℕ)
 two-answers levels w S p four found =
     let f = two-value levels w S in
     elim (cases-bool (runs-as f 0 two-run)) [
-      inl run ↦
-        (let e : Some (payload-of 2 f) ≡ Some p = sym (ap (λ c. found-by c S) (cond-true _ _ _ run)) ∙ found in
-         let same : payload-of 2 f ≡ p = cc in
-         let few : (k : ℕ) → f k < 4 = λ k. omega (arith, countBy-le-length (λ c. leb c (2 * S k)) (cuts-of w levels), length-cuts w levels (omega arith)) in
-         subst (Drawable (λ n. eqb n 60)) same (payload-drawable 2 (omega arith) (omega arith) f few (begins-by f run)))
-    | inr miss ↦
-        (let e : None ≡ Some p = sym (ap (λ c. found-by c S) (cond-false _ _ _ miss)) ∙ found in
-         let z : _≡_ {A = ℕ} 0 1 = cc in
-         let none : ⊥ = omega arith in
-         absurd none) ]
+      | inl run ↦
+          (let e : Some (payload-of 2 f) ≡ Some p = sym (ap (λ c. found-by c S) (cond-true _ _ _ run)) ∙ found in
+          let same : payload-of 2 f ≡ p = cc in
+          let few : (k : ℕ) → f k < 4 = λ k. omega (arith, countBy-le-length (λ c. leb c (2 * S k)) (cuts-of w levels), length-cuts w levels (omega arith)) in
+          subst (Drawable (λ n. eqb n 60)) same (payload-drawable 2 (omega arith) (omega arith) f few (begins-by f run)))
+      | inr miss ↦
+          (let e : None ≡ Some p = sym (ap (λ c. found-by c S) (cond-false _ _ _ miss)) ∙ found in
+          let z : _≡_ {A = ℕ} 0 1 = cc in
+          let none : ⊥ = omega arith in
+          absurd none)
+    ]

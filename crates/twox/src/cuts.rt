@@ -40,7 +40,11 @@ fn cuts_between(depth: Depth, count: usize) -> [u32; 3]
 {
     let w = weight(count);
     let [a, b, c, d] = levels(depth);
-    [w * (a as u32 + b as u32), w * (b as u32 + c as u32), w * (c as u32 + d as u32)]
+    [
+        w * (a as u32 + b as u32),
+        w * (b as u32 + c as u32),
+        w * (c as u32 + d as u32),
+    ]
 }
 
 // Whether the first eight values are those of the run-in.
@@ -61,5 +65,9 @@ pub fn cuts(depth: Depth, line: &[u16]) -> Option<Cuts>
     ensures answer { λ r. ⌜ r ≡ two-cuts (two-levels depth) (weight (length (now (line .entry)))) (level-at (now (line .entry))) ⌝ }
 {
     let cuts = cuts_between(depth, line.len());
-    if run_in(line, &cuts) { Some(Cuts::Three(cuts)) } else { None }
+    if run_in(line, &cuts) {
+        Some(Cuts::Three(cuts))
+    } else {
+        None
+    }
 }

@@ -18,6 +18,7 @@ pub impl Yields<TwoX> for OneX as OneYieldsTwo {
 
 pub impl Ranked for OneTwo as OneTwoRanked {
     type First = OneX;
+
     type Second = TwoX;
 
     ghost first = { λ s. s .one };
@@ -38,7 +39,10 @@ pub impl Joins<TwoX> for OneX as OneJoinsTwo {
 
     fn join(self, second: TwoX) -> Result<OneTwo, Refusal> {
         if self.depth() == second.depth() {
-            Ok(OneTwo { one: self, two: second })
+            Ok(OneTwo {
+                one: self,
+                two: second,
+            })
         } else {
             Err(Refusal::Depth)
         }

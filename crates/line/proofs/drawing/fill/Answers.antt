@@ -25,7 +25,7 @@ loop-i-again c =
     let levels = c .args .levels .now in
     let f : ℕ → ℕ = λ k. getD levels (symbol-of (c .args .bits) (c .args .payload .now) (symbol-at (length (c .args .line .now)) k)) 0 in
     let is : f (c .loop-i .i) ≡ getD levels (c .symbol-of .result) 0 =
-        ap (λ n. getD levels (symbol-of (c .args .bits) (c .args .payload .now) (c .loop-i .i / n)) 0) (sym (c .weight-n .ensures .answer)) ∙ ap (λ v. getD levels v 0) (sym (c .symbol-of .ensures .0)) in
+    ap (λ n. getD levels (symbol-of (c .args .bits) (c .args .payload .now) (c .loop-i .i / n)) 0) (sym (c .weight-n .ensures .answer)) ∙ ap (λ v. getD levels v 0) (sym (c .symbol-of .ensures .0)) in
     subst (λ (x : ℕ). (k : ℕ) → k < c .loop-i .i + 1 → getD (set (c .loop-i .line) (c .loop-i .i) x) k 0 ≡ f k) is
     (fill-by-more f (c .loop-i .line) (c .loop-i .i) 0 (omega arith) (c .loop-i .inv))
 

@@ -23,7 +23,7 @@ returns-in-None c =
     let is = c .weight-w .ensures .answer in
     let line = c .args .line .now in
     let out : length line < c .args .k * c .weight-w .result + c .weight-w .result =
-        elim (c .in-None .ensures tt .finds .0) [ inl less ↦ omega arith | inr past ↦ past ] in
+    elim (c .in-None .ensures tt .finds .0) [ inl less ↦ omega arith | inr past ↦ past ] in
     record {
       level = symbol-none line (c .args .k) (subst (λ (w : ℕ). length line < c .args .k * w + w) is out);
       weight = is;

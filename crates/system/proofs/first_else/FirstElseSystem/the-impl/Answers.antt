@@ -22,11 +22,14 @@ tolerance-law g s line p t =
 
 pub reading-law : need.reading-law
 reading-law g s line p c =
-    elim c [ inl a ↦ found-first _ _ p (g .First·LineSystem·met .reading _ line p a)
-           | inr b ↦ found-second _ _ p (g .P·Ranked·met .apart _ line p b) (g .Second·LineSystem·met .reading _ line p b) ]
+    elim c [
+      | inl a ↦ found-first _ _ p (g .First·LineSystem·met .reading _ line p a)
+      | inr b ↦ found-second _ _ p (g .P·Ranked·met .apart _ line p b) (g .Second·LineSystem·met .reading _ line p b)
+    ]
 
 pub answers-law : need.answers-law
 answers-law g s line p f =
     elim (found-by _ _ p f) [
-      inl a ↦ let d = g .First·LineSystem·met .answers _ line p a in record { size = or-left _ _ (d .size); front = d .front; bytes = d .bytes }
-    | inr b ↦ let d = g .Second·LineSystem·met .answers _ line p b in record { size = or-right _ _ (d .size); front = d .front; bytes = d .bytes } ]
+      | inl a ↦ let d = g .First·LineSystem·met .answers _ line p a in record { size = or-left _ _ (d .size); front = d .front; bytes = d .bytes }
+      | inr b ↦ let d = g .Second·LineSystem·met .answers _ line p b in record { size = or-right _ _ (d .size); front = d .front; bytes = d .bytes }
+    ]

@@ -1,0 +1,8 @@
+// Marks a reference tape, sends it through a bad cable box and reads it back, and prints what it did.
+mod hex;
+mod lines;
+
+fn main(rt: LibcRuntime) -> Result<(), std::error::AnyError> {
+    lines::show(rt)?;
+    Ok(())
+}
