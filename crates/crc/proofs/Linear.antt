@@ -32,7 +32,7 @@ low : (r : ℕ) → r < 0x8000_0000 → shifted r ≡ twice r
 unfolding shifted
 low r h = cond-false (leb 0x8000_0000 r) _ _ (lt-leb _ _ h)
 
-shifted-below : (r : ℕ) → shifted r < 2 ^ 32
+pub shifted-below : (r : ℕ) → shifted r < 2 ^ 32
 unfolding shifted
 shifted-below r =
     let m : twice r < 2 ^ 32 = omega arith in

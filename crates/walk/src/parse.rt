@@ -2,9 +2,11 @@
 ghost use mathlib.Core.Path.{_≡_};
 ghost use Prim.Native.Nat.{_+_, _≤_, _<_};
 ghost use lib.ListN.{length, drop};
+ghost use Rattle.std.specs.Vec.{Every};
 ghost use Rattle.sending.specs.Model.{means};
 ghost use Rattle.walk.specs.Fields.{word, count-of, cause-at, cause-number, cause-told, block-at, least-count};
 ghost use Rattle.walk.specs.Entries.{taken, entries};
+ghost use Rattle.walk.specs.Laws.{Reads-sent-blocks, Apart, Few, Right};
 ghost use Rattle.walk.specs.Steps.{ahead, Steps, bytes-left, Found};
 use crc::crc32;
 use sending::Block;
@@ -121,6 +123,10 @@ impl<'a> Walk<'a> {
     pub fn new(payload: &'a [u8]) -> Self
         ensures payload { λ r. ⌜ now (r .payload) ≡ now (payload .entry) ⌝ }
         ensures entries { λ r. ⌜ ahead r ≡ entries (now (payload .entry)) ⌝ }
+        ensures sent_blocks_are_read { λ r. ⌜ Reads-sent-blocks (now (payload .entry)) (ahead r) ⌝ }
+        ensures entries_lie_apart { λ r. ⌜ Apart (now (payload .entry)) (ahead r) ⌝ }
+        ensures entries_are_few { λ r. ⌜ Few (now (payload .entry)) (ahead r) ⌝ }
+        ensures blocks_are_right { λ r. ⌜ Every (Right (now (payload .entry))) (ahead r) ⌝ }
     {
         let place = payload.len().min(FIRST);
         Walk { payload, place }
