@@ -1,6 +1,7 @@
 // Sendings: a message in one to four parts, made by cutting a message or from given parts, and the bytes of its blocks.
 // This crate knows nothing of payloads, frames or lines, and allocates nothing.
 mod block;
+mod blocks;
 mod cut;
 mod given;
 mod limits;

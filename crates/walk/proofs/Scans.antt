@@ -86,7 +86,7 @@ some-from-byte (b ∷ bs) h = omega arith
 pub found-entry : (p : ℕ) (bs : List ℕ) (e : Entry) (n : ℕ) → (getD bs 0 0 ≡ 0 → ⊥) → item e ≡ item-at p bs → n ≡ taken bs → Found p bs (Some (e, n))
 found-entry p bs e n some is size =
     let w = past-within bs (some-from-byte bs some) in
-    (omega arith, omega arith, scan-entry p bs some ∙ ap (λ m. item-at p bs ∷ scan 0 (p + m) (drop m bs)) (sym size) ∙ ap (λ i. i ∷ scan 0 (p + n) (drop n bs)) (sym is))
+    (omega arith, omega arith, size, scan-entry p bs some ∙ ap (λ m. item-at p bs ∷ scan 0 (p + m) (drop m bs)) (sym size) ∙ ap (λ i. i ∷ scan 0 (p + n) (drop n bs)) (sym is))
 
 pub item-block : (p : ℕ) (bs : List ℕ) → cause-at bs ≡ 0 → item-at p bs ≡ read p (block-at bs)
 unfolding item-at

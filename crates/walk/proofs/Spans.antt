@@ -17,7 +17,7 @@ use Rattle.sending.specs.Wire.{check-bytes, block-bytes}
 use Rattle.sending.proofs.Wires.{length-block}
 use Rattle.walk.specs.Fields.{word, count-of, has-check, cause-at, block-at}
 use Rattle.walk.specs.Entries.{Item, read, fault, item-at, finishes, scan, entries, blocks-read}
-use Rattle.walk.specs.Laws.{place-of, end-of, Apart, Few, Right}
+use Rattle.walk.specs.Laws.{place-of, end-of, InLine, Apart, Few, Right}
 use Rattle.walk.proofs.Scans.{fits, room, crc-holds, in-order}
 
 weaken : {P Q : Item → Type 0} → ((i : Item) → P i → Q i) → (is : List Item) → Every P is → Every Q is
@@ -43,6 +43,24 @@ behind (suc k) p (b ∷ bs) = weaken (λ j h. omega arith) (scan k (suc p) bs) (
 -- the bytes behind the first
 tail-is : (payload : List ℕ) (p b : ℕ) (bs : List ℕ) → b ∷ bs ≡ drop p payload → bs ≡ drop (suc p) payload
 tail-is payload p b bs e = let n : p + 1 ≡ suc p = omega arith in ap (drop 1) e ∙ drop-drop 1 p payload ∙ ap (λ m. drop m payload) n
+
+pub in-line : (payload : List ℕ) (k p : ℕ) (bs : List ℕ) → bs ≡ drop p payload → InLine payload (p + k) (scan k p bs)
+unfolding scan
+in-line payload zero p [] e = tt
+in-line payload (suc k) p [] e = tt
+in-line payload zero p (b ∷ bs) e =
+    let c = count-of (b ∷ bs) in
+    let n : c ≡ getD payload (p + 1) 0 = ap (λ l. getD l 1 0) e ∙ getD-drop p payload 1 0 in
+    let at = place-item p (b ∷ bs) in
+    let m = ap (λ q. getD payload (q + 1) 0) at in
+    let end : suc p + suc c ≡ end-of payload (item-at p (b ∷ bs)) = omega arith in
+    cond-both (eqb b 0) [] _ (InLine payload (p + 0)) (λ _. tt)
+    (λ _. (at ∙ sym (add-zero p),
+      cond-both (finishes (cause-at (b ∷ bs))) [] _ (InLine payload (end-of payload (item-at p (b ∷ bs)))) (λ _. tt)
+      (λ _. subst (λ q. InLine payload q (scan (suc c) (suc p) bs)) end (in-line payload (suc c) (suc p) bs (tail-is payload p b bs e)))))
+in-line payload (suc k) p (b ∷ bs) e =
+    let n : suc p + k ≡ p + suc k = omega arith in
+    subst (λ q. InLine payload q (scan k (suc p) bs)) n (in-line payload k (suc p) bs (tail-is payload p b bs e))
 
 pub apart : (payload : List ℕ) (k p : ℕ) (bs : List ℕ) → bs ≡ drop p payload → Apart payload (scan k p bs)
 unfolding scan

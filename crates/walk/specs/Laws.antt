@@ -37,6 +37,11 @@ place-of (fault place cause number) = place
 abbrev pub end-of : List ℕ → Item → ℕ
 end-of payload i = place-of i + 2 + getD payload (place-of i + 1) 0
 
+-- the entries lie one behind the other from place p on: each begins where the one before it ends
+abbrev pub InLine : List ℕ → ℕ → List Item → Type 0
+InLine payload p [] = Unit {0}
+InLine payload p (i ∷ is) = (place-of i ≡ p) × InLine payload (end-of payload i) is
+
 -- no two entries share a byte: each begins where or behind where each before it ends
 abbrev pub Apart : List ℕ → List Item → Type 0
 Apart payload [] = Unit {0}

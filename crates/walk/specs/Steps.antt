@@ -7,7 +7,7 @@ use Rattle.std.specs.declared.option.Option.{Option}
 use Rattle.std.specs.declared.option.Option.the-variants.{Some, None}
 use Rattle.walk.specs.declared.entry.Entry.{Entry}
 use Rattle.walk.specs.declared.walk.Walk.{Walk}
-use Rattle.walk.specs.Entries.{Item, scan, item}
+use Rattle.walk.specs.Entries.{Item, taken, scan, item}
 
 -- the entries that a walk has still to give
 abbrev pub ahead : Walk → List Item
@@ -22,12 +22,18 @@ First all (Some e) others = all ≡ item e ∷ others
 abbrev pub bytes-left : Walk → ℕ
 bytes-left w = length (w .payload .now) - w .place
 
+-- the place after a step: behind the entry that is given; without one it stays
+abbrev pub place-after : Walk → Option Entry → ℕ
+place-after w None = w .place
+place-after w (Some e) = w .place + taken (drop (w .place) (w .payload .now))
+
 -- one step of a walk: it gives the first entry ahead, and keeps its payload
 pub record Steps (w : Walk) (r : Option Entry) (after : Walk) : Type 0 where
   pub same : after .payload ≡ w .payload
   pub entry : First (ahead w) r (ahead after)
+  pub next : after .place ≡ place-after w r
 
 -- r is the entry with which bytes at place p begin, with the bytes that it takes
 abbrev pub Found : ℕ → List ℕ → Option (Entry × ℕ) → Type 0
 Found p bs None = scan 0 p bs ≡ []
-Found p bs (Some r) = (0 < r .1) × (r .1 ≤ length bs) × (scan 0 p bs ≡ item (r .0) ∷ scan 0 (p + r .1) (drop (r .1) bs))
+Found p bs (Some r) = (0 < r .1) × (r .1 ≤ length bs) × (r .1 ≡ taken bs) × (scan 0 p bs ≡ item (r .0) ∷ scan 0 (p + r .1) (drop (r .1) bs))

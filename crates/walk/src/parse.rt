@@ -5,8 +5,8 @@ ghost use lib.ListN.{length, drop};
 ghost use Rattle.std.specs.Vec.{Every};
 ghost use Rattle.sending.specs.Model.{means};
 ghost use Rattle.walk.specs.Fields.{word, count-of, cause-at, cause-number, cause-told, block-at, least-count};
-ghost use Rattle.walk.specs.Entries.{taken, entries};
-ghost use Rattle.walk.specs.Laws.{Reads-sent-blocks, Apart, Few, Right};
+ghost use Rattle.walk.specs.Entries.{finishes, taken, entries};
+ghost use Rattle.walk.specs.Laws.{Reads-sent-blocks, InLine, Apart, Few, Right};
 ghost use Rattle.walk.specs.Steps.{ahead, Steps, bytes-left, Found};
 use crc::crc32;
 use sending::Block;
@@ -90,15 +90,27 @@ fn block_of(rest: &[u8]) -> Block<'_>
     Block { number, version, part, last, body, check: None }
 }
 
+// Whether a cause finishes the line: nothing then tells where a next block would begin.
+fn ends_line(cause: Cause) -> bool
+    ensures { λ r. ⌜ r ≡ finishes (cause-number cause) ⌝ }
+{
+    match cause {
+        Cause::Cut => true,
+        Cause::Crc => true,
+        Cause::Part => false,
+        Cause::Short => false,
+    }
+}
+
 // How many bytes a block that isn't read takes: all that are left where it finishes the line.
 fn past_fault(cause: Cause, rest: &[u8]) -> usize
     requires { ⌜ cause-number cause ≡ cause-at (now rest) ⌝ }
     ensures { λ n. ⌜ n ≡ taken (now (rest .entry)) ⌝ }
 {
-    match cause {
-        Cause::Cut | Cause::Crc => rest.len(),
-        Cause::Part | Cause::Short => 2 + rest[1] as usize,
+    if ends_line(cause) {
+        return rest.len();
     }
+    2 + rest[1] as usize
 }
 
 // The entry with which these bytes, at a place of their payload, begin, and how many bytes it takes.
@@ -124,6 +136,7 @@ impl<'a> Walk<'a> {
         ensures payload { λ r. ⌜ now (r .payload) ≡ now (payload .entry) ⌝ }
         ensures entries { λ r. ⌜ ahead r ≡ entries (now (payload .entry)) ⌝ }
         ensures sent_blocks_are_read { λ r. ⌜ Reads-sent-blocks (now (payload .entry)) (ahead r) ⌝ }
+        ensures entries_lie_in_line { λ r. ⌜ InLine (now (payload .entry)) 2 (ahead r) ⌝ }
         ensures entries_lie_apart { λ r. ⌜ Apart (now (payload .entry)) (ahead r) ⌝ }
         ensures entries_are_few { λ r. ⌜ Few (now (payload .entry)) (ahead r) ⌝ }
         ensures blocks_are_right { λ r. ⌜ Every (Right (now (payload .entry))) (ahead r) ⌝ }
