@@ -50,19 +50,19 @@ linear a b ha hb =
     let top : bitXor a b / 2 ^ 31 ≡ bitXor (a / 2 ^ 31) (b / 2 ^ 31) = xor-shr a b 31 in
     ⊎-elim
     (λ la. let za : a / 2 ^ 31 ≡ 0 = omega arith in
-      ⊎-elim
-      (λ lb. let zb : b / 2 ^ 31 ≡ 0 = omega arith in let t : bitXor a b / 2 ^ 31 ≡ 0 = top ∙ (λ i. bitXor (za i) (zb i)) in
-        low (bitXor a b) (omega (arith, t)) ∙ twice-xor a b ∙ sym (λ i. bitXor (low a la i) (low b lb i)))
-      (λ hb'. let zb : b / 2 ^ 31 ≡ 1 = omega arith in let t : bitXor a b / 2 ^ 31 ≡ 1 = top ∙ (λ i. bitXor (za i) (zb i)) in
-        high (bitXor a b) (omega (arith, t)) ∙ ap (λ n. bitXor n poly) (twice-xor a b) ∙ xor-assoc (twice a) (twice b) poly ∙ sym (λ i. bitXor (low a la i) (high b hb' i)))
-      (cases-lt b 0x8000_0000))
+    ⊎-elim
+    (λ lb. let zb : b / 2 ^ 31 ≡ 0 = omega arith in let t : bitXor a b / 2 ^ 31 ≡ 0 = top ∙ (λ i. bitXor (za i) (zb i)) in
+    low (bitXor a b) (omega (arith, t)) ∙ twice-xor a b ∙ sym (λ i. bitXor (low a la i) (low b lb i)))
+    (λ hb'. let zb : b / 2 ^ 31 ≡ 1 = omega arith in let t : bitXor a b / 2 ^ 31 ≡ 1 = top ∙ (λ i. bitXor (za i) (zb i)) in
+    high (bitXor a b) (omega (arith, t)) ∙ ap (λ n. bitXor n poly) (twice-xor a b) ∙ xor-assoc (twice a) (twice b) poly ∙ sym (λ i. bitXor (low a la i) (high b hb' i)))
+    (cases-lt b 0x8000_0000))
     (λ ha'. let za : a / 2 ^ 31 ≡ 1 = omega arith in
-      ⊎-elim
-      (λ lb. let zb : b / 2 ^ 31 ≡ 0 = omega arith in let t : bitXor a b / 2 ^ 31 ≡ 1 = top ∙ (λ i. bitXor (za i) (zb i)) in
-        high (bitXor a b) (omega (arith, t)) ∙ ap (λ n. bitXor n poly) (twice-xor a b) ∙ sym (left-poly (twice a) (twice b) poly) ∙ sym (λ i. bitXor (high a ha' i) (low b lb i)))
-      (λ hb'. let zb : b / 2 ^ 31 ≡ 1 = omega arith in let t : bitXor a b / 2 ^ 31 ≡ 0 = top ∙ (λ i. bitXor (za i) (zb i)) in
-        low (bitXor a b) (omega (arith, t)) ∙ twice-xor a b ∙ sym (both-poly (twice a) (twice b) poly) ∙ sym (λ i. bitXor (high a ha' i) (high b hb' i)))
-      (cases-lt b 0x8000_0000))
+    ⊎-elim
+    (λ lb. let zb : b / 2 ^ 31 ≡ 0 = omega arith in let t : bitXor a b / 2 ^ 31 ≡ 1 = top ∙ (λ i. bitXor (za i) (zb i)) in
+    high (bitXor a b) (omega (arith, t)) ∙ ap (λ n. bitXor n poly) (twice-xor a b) ∙ sym (left-poly (twice a) (twice b) poly) ∙ sym (λ i. bitXor (high a ha' i) (low b lb i)))
+    (λ hb'. let zb : b / 2 ^ 31 ≡ 1 = omega arith in let t : bitXor a b / 2 ^ 31 ≡ 0 = top ∙ (λ i. bitXor (za i) (zb i)) in
+    low (bitXor a b) (omega (arith, t)) ∙ twice-xor a b ∙ sym (both-poly (twice a) (twice b) poly) ∙ sym (λ i. bitXor (high a ha' i) (high b hb' i)))
+    (cases-lt b 0x8000_0000))
     (cases-lt a 0x8000_0000)
 
 times-linear : (n a b : ℕ) → a < 2 ^ 32 → b < 2 ^ 32 → times n shifted (bitXor a b) ≡ bitXor (times n shifted a) (times n shifted b)
@@ -92,6 +92,6 @@ fed-split r b t hr hb is =
     let parts : r ≡ hi * 2 ^ 24 + lo = omega arith in
     let byte : (b * 2 ^ 24) % 2 ^ 32 ≡ b * 2 ^ 24 + 0 = omega arith in
     let split : bitXor r ((b * 2 ^ 24) % 2 ^ 32) ≡ bitXor (x * 2 ^ 24) lo =
-        (λ i. bitXor (parts i) (byte i)) ∙ xor-block 24 hi b lo 0 small (omega arith) ∙ ap (λ n. x * 2 ^ 24 + n) (xor-zero-r lo) ∙ sym (xor-shifted x 24 lo small) in
+    (λ i. bitXor (parts i) (byte i)) ∙ xor-block 24 hi b lo 0 small (omega arith) ∙ ap (λ n. x * 2 ^ 24 + n) (xor-zero-r lo) ∙ sym (xor-shifted x 24 lo small) in
     let moved : times 8 shifted lo ≡ (r * 2 ^ 8) % 2 ^ 32 = times-low 8 lo (omega arith) ∙ omega arith in
     sym (ap (times 8 shifted) split ∙ times-linear 8 (x * 2 ^ 24) lo (omega arith) (omega arith) ∙ (λ i. bitXor (sym is i) (moved i)) ∙ xor-comm t ((r * 2 ^ 8) % 2 ^ 32))

@@ -108,10 +108,10 @@ plain-next ps i h before here k j hk hj =
     let l : j < length (getD ps k []) = omega (arith, ap length e) in
     subst (λ (p : List ℕ). getD p j 0 < 256) (sym e)
     (⊎-elim
-      (λ (lt : k < i). let f : getD (take i ps) k [] ≡ getD ps k [] = getD-take i ps k [] lt in
-        subst (λ (p : List ℕ). getD p j 0 < 256) f (before k j (omega arith) (omega (arith, ap length f))))
-      (λ (ge : i ≤ k). let f : i ≡ k = omega arith in subst (λ (m : ℕ). getD (getD ps m []) j 0 < 256) f (here j (omega (arith, ap (λ m. length (getD ps m [])) f))))
-      (cases-lt k i))
+    (λ (lt : k < i). let f : getD (take i ps) k [] ≡ getD ps k [] = getD-take i ps k [] lt in
+    subst (λ (p : List ℕ). getD p j 0 < 256) f (before k j (omega arith) (omega (arith, ap length f))))
+    (λ (ge : i ≤ k). let f : i ≡ k = omega arith in subst (λ (m : ℕ). getD (getD ps m []) j 0 < 256) f (here j (omega (arith, ap (λ m. length (getD ps m [])) f))))
+    (cases-lt k i))
 
 -- ---- the answer
 pub given-unfit : (s : Sending) → None ≡ first-long (length (s .parts)) 0 (s .parts) → unsuited (s .number) (s .version) (length (s .parts)) ≡ true → of-parts s ≡ Err NotOfASending

@@ -61,28 +61,32 @@ pub counts : (c m : ℕ) → m ≤ capacity c 4 → ((m ≤ c - 7) × (part-coun
 counts c m most =
     ⊎-elim
     (λ (h : c - 7 < m).
-      let one : part-count c m ≡ cond (leb m (capacity c 2)) 2 (cond (leb m (capacity c 3)) 3 4) = cond-false (leb m (c - 7)) 1 _ (lt-leb m (c - 7) h) in
-      inr (h, ⊎-elim
-        (λ (h2 : capacity c 2 < m).
+    let one : part-count c m ≡ cond (leb m (capacity c 2)) 2 (cond (leb m (capacity c 3)) 3 4) = cond-false (leb m (c - 7)) 1 _ (lt-leb m (c - 7) h) in
+    inr (
+      h,
+      ⊎-elim
+          (λ (h2 : capacity c 2 < m).
           let two : part-count c m ≡ cond (leb m (capacity c 3)) 3 4 = one ∙ cond-false (leb m (capacity c 2)) 2 _ (lt-leb m (capacity c 2) h2) in
           ⊎-elim
           (λ (h3 : capacity c 3 < m).
-            let four : part-count c m ≡ 4 = two ∙ cond-false (leb m (capacity c 3)) 3 4 (lt-leb m (capacity c 3) h3) in
-            subst (Smallest c m) (sym four) (record { two-to-four = (omega arith, omega arith); enough = most; no-fewer = λ k lo e. at-least-four k lo e h2 h3 }))
+          let four : part-count c m ≡ 4 = two ∙ cond-false (leb m (capacity c 3)) 3 4 (lt-leb m (capacity c 3) h3) in
+          subst (Smallest c m) (sym four) (record { two-to-four = (omega arith, omega arith); enough = most; no-fewer = λ k lo e. at-least-four k lo e h2 h3 }))
           (λ (h3 : m ≤ capacity c 3).
-            let three : part-count c m ≡ 3 = two ∙ cond-true (leb m (capacity c 3)) 3 4 (le-leb m (capacity c 3) h3) in
-            subst (Smallest c m) (sym three) (record { two-to-four = (omega arith, omega arith); enough = h3; no-fewer = λ k lo e. at-least-three k lo e h2 }))
+          let three : part-count c m ≡ 3 = two ∙ cond-true (leb m (capacity c 3)) 3 4 (le-leb m (capacity c 3) h3) in
+          subst (Smallest c m) (sym three) (record { two-to-four = (omega arith, omega arith); enough = h3; no-fewer = λ k lo e. at-least-three k lo e h2 }))
           (cases-lt (capacity c 3) m))
-        (λ (h2 : m ≤ capacity c 2).
+          (λ (h2 : m ≤ capacity c 2).
           let two : part-count c m ≡ 2 = one ∙ cond-true (leb m (capacity c 2)) 2 _ (le-leb m (capacity c 2) h2) in
           subst (Smallest c m) (sym two) (record { two-to-four = (omega arith, omega arith); enough = h2; no-fewer = λ k lo e. lo }))
-        (cases-lt (capacity c 2) m)))
+          (cases-lt (capacity c 2) m),
+    ))
     (λ (h : m ≤ c - 7). inl (h, cond-true (leb m (c - 7)) 1 _ (le-leb m (c - 7) h)))
     (cases-lt (c - 7) m)
   where
     at-least-three : (k : ℕ) → 2 ≤ k → m ≤ capacity c k → capacity c 2 < m → 3 ≤ k
     at-least-three k lo e h2 =
         ⊎-elim (λ (l : 2 < k). omega arith) (λ (l : k ≤ 2). let is : k ≡ 2 = omega arith in let f : m ≤ capacity c 2 = subst (λ n. m ≤ capacity c n) is e in absurd (omega arith)) (cases-lt 2 k)
+
     at-least-four : (k : ℕ) → 2 ≤ k → m ≤ capacity c k → capacity c 2 < m → capacity c 3 < m → 4 ≤ k
     at-least-four k lo e h2 h3 =
         let low : 3 ≤ k = at-least-three k lo e h2 in
@@ -98,7 +102,7 @@ is-cut c m most =
       joins = pieces-join (n - 1) (c - 7) m;
       one = λ h. ⊎-elim (λ e. long ∙ e .1) (λ e. absurd (omega (arith, e .0))) (counts c (length m) most);
       several = λ h. ⊎-elim (λ e. absurd (omega (arith, e .0))) (λ e. subst (Smallest c (length m)) (sym long) (e .1)) (counts c (length m) most);
-      takes = λ k h. pieces-take (n - 1) (c - 7) m k (omega arith)
+      takes = λ k h. pieces-take (n - 1) (c - 7) m k (omega arith);
     }
 
 -- ---- and its parts make a sending
@@ -115,13 +119,13 @@ cut-short c m small most =
     let some : 1 ≤ n = ⊎-elim (λ h. omega (arith, h .1)) (λ h. omega (arith, h .1 .two-to-four .0)) (counts c (length m) most) in
     let long : length (cut-parts c m) ≡ n = pieces-length (n - 1) (c - 7) m ∙ omega arith in
     none-long (length (cut-parts c m)) 0 (cut-parts c m) (λ k h.
-      let z : k ≡ 0 + k = omega arith in
-      subst (λ j. length (getD (cut-parts c m) k []) ≤ part-limit (length (cut-parts c m)) j) z
-      (subst (λ j. length (getD (cut-parts c m) k []) ≤ part-limit j k) (sym long)
-      (⊎-elim
-        (λ (l : k < n - 1). omega (arith, pieces-take (n - 1) (c - 7) m k l, limit-inner n k (omega arith)))
-        (λ (l : n - 1 ≤ k). let e : n - 1 ≡ k = omega arith in subst (λ j. length (getD (cut-parts c m) j []) ≤ part-limit n j) e (last-piece c m small most))
-        (cases-lt k (n - 1)))))
+    let z : k ≡ 0 + k = omega arith in
+    subst (λ j. length (getD (cut-parts c m) k []) ≤ part-limit (length (cut-parts c m)) j) z
+    (subst (λ j. length (getD (cut-parts c m) k []) ≤ part-limit j k) (sym long)
+    (⊎-elim
+    (λ (l : k < n - 1). omega (arith, pieces-take (n - 1) (c - 7) m k l, limit-inner n k (omega arith)))
+    (λ (l : n - 1 ≤ k). let e : n - 1 ≡ k = omega arith in subst (λ j. length (getD (cut-parts c m) j []) ≤ part-limit n j) e (last-piece c m small most))
+    (cases-lt k (n - 1)))))
 
 -- the same, where the count is known
 pub cut-short-at : (c n : ℕ) (m : List ℕ) → c ≤ 58 → length m ≤ capacity c 4 → part-count c (length m) ≡ n → first-long (length (pieces (n - 1) (c - 7) m)) 0 (pieces (n - 1) (c - 7) m) ≡ None

@@ -23,7 +23,7 @@ one-rule s x y i =
       one-to-four = ×-prop le-prop le-prop (x .one-to-four) (y .one-to-four) i;
       parts-fit = Π-prop (λ k. Π-prop (λ h. le-prop)) (x .parts-fit) (y .parts-fit) i;
       last-fits = Π-prop (λ h. le-prop) (x .last-fits) (y .last-fits) i;
-      bytes-stand = Π-prop (λ k. Π-prop (λ j. Π-prop (λ h. Π-prop (λ l. le-prop)))) (x .bytes-stand) (y .bytes-stand) i
+      bytes-stand = Π-prop (λ k. Π-prop (λ j. Π-prop (λ h. Π-prop (λ l. le-prop)))) (x .bytes-stand) (y .bytes-stand) i;
     }
 
 pub kept : (s : Sending) → ∥ IsSending s ∥₁ → IsSending s
@@ -45,12 +45,12 @@ pub rule-of : (n v : ℕ) (ps : List (List ℕ)) → first-long (length ps) 0 ps
 rule-of n v ps short suits small plain =
     let s = suited n v (length ps) suits in
     let f : (k : ℕ) → k < length ps → length (getD ps k []) ≤ part-limit (length ps) k =
-        λ k h. subst (λ m. length (getD ps k []) ≤ part-limit (length ps) m) (omega arith) (short-parts (length ps) 0 ps short k h) in
+    λ k h. subst (λ m. length (getD ps k []) ≤ part-limit (length ps) m) (omega arith) (short-parts (length ps) 0 ps short k h) in
     record {
       number-stands = (s .0, omega arith);
       version-stands = s .1;
       one-to-four = (s .2, s .3);
       parts-fit = λ k h. omega (arith, f k h, limit-most (length ps) k);
       last-fits = λ h. omega (arith, f (length ps - 1) (omega arith), limit-last (length ps) (length ps - 1) h (omega arith));
-      bytes-stand = plain
+      bytes-stand = plain;
     }

@@ -25,9 +25,9 @@ cuts-ends p (x ∷ xs) bs e =
     let n : length (x ++ joint xs) ≡ length x + length (joint xs) = length-append x (joint xs) in
     let all : take (length x + length (joint xs)) (drop p bs) ≡ x ++ joint xs = ap (λ m. take m (drop p bs)) (sym n) ∙ e in
     let one : take (length x) (drop p bs) ≡ x =
-        sym (take-take (length x) (length x + length (joint xs)) (drop p bs) (omega arith)) ∙ ap (take (length x)) all ∙ take-at x (joint xs) (length x) refl in
+    sym (take-take (length x) (length x + length (joint xs)) (drop p bs) (omega arith)) ∙ ap (take (length x)) all ∙ take-at x (joint xs) (length x) refl in
     let others : take (length (joint xs)) (drop (p + length x) bs) ≡ joint xs =
-        ap (take (length (joint xs))) (sym (drop-drop (length x) p bs)) ∙ sym (drop-take (length x) (length (joint xs)) (drop p bs)) ∙ ap (drop (length x)) all ∙ drop-at x (joint xs) (length x) refl in
+    ap (take (length (joint xs))) (sym (drop-drop (length x) p bs)) ∙ sym (drop-take (length x) (length (joint xs)) (drop p bs)) ∙ ap (drop (length x)) all ∙ drop-at x (joint xs) (length x) refl in
     let w : p + length x - p ≡ length x = omega arith in
     (λ i. (ap (λ m. take m (drop p bs)) w ∙ one) i ∷ cuts-ends (p + length x) xs bs others i)
 

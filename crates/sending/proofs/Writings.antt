@@ -64,20 +64,23 @@ module _ (s : Sending) (i : ℕ) where
   module _ (at : ℕ) (out : List ℕ) where
     pub write-short : length out < at + size s i → (Err (OutputLength (length out)) ≡ writing s i at (length out)) × (out ≡ written s i at out)
     unfolding writing written
-    write-short h =
-        (sym (cond-true (ltb (length out) (at + size s i)) _ _ (lt-ltb (length out) (at + size s i) h)),
-         sym (cond-true (ltb (length out) (at + size s i)) out (cond (ltb i (length (s .parts))) (laid out at (block-bytes (block s i))) out) (lt-ltb (length out) (at + size s i) h)))
+    write-short h = (
+      sym (cond-true (ltb (length out) (at + size s i)) _ _ (lt-ltb (length out) (at + size s i) h)),
+      sym (cond-true (ltb (length out) (at + size s i)) out (cond (ltb i (length (s .parts))) (laid out at (block-bytes (block s i))) out) (lt-ltb (length out) (at + size s i) h)),
+    )
 
     pub write-above : at + size s i ≤ length out → length (s .parts) ≤ i → (Err NotOfASending ≡ writing s i at (length out)) × (out ≡ written s i at out)
     unfolding writing written
-    write-above h l =
-        (sym (cond-false (ltb (length out) (at + size s i)) _ _ (le-ltb (length out) (at + size s i) h) ∙ cond-false (ltb i (length (s .parts))) _ _ (le-ltb i (length (s .parts)) l)),
-         sym (cond-false (ltb (length out) (at + size s i)) out (cond (ltb i (length (s .parts))) (laid out at (block-bytes (block s i))) out) (le-ltb (length out) (at + size s i) h)
-           ∙ cond-false (ltb i (length (s .parts))) (laid out at (block-bytes (block s i))) out (le-ltb i (length (s .parts)) l)))
+    write-above h l = (
+      sym (cond-false (ltb (length out) (at + size s i)) _ _ (le-ltb (length out) (at + size s i) h) ∙ cond-false (ltb i (length (s .parts))) _ _ (le-ltb i (length (s .parts)) l)),
+      sym (cond-false (ltb (length out) (at + size s i)) out (cond (ltb i (length (s .parts))) (laid out at (block-bytes (block s i))) out) (le-ltb (length out) (at + size s i) h)
+          ∙ cond-false (ltb i (length (s .parts))) (laid out at (block-bytes (block s i))) out (le-ltb i (length (s .parts)) l)),
+    )
 
     pub write-fits : at + size s i ≤ length out → i < length (s .parts) → (Ok (at + size s i) ≡ writing s i at (length out)) × (laid out at (block-bytes (block s i)) ≡ written s i at out)
     unfolding writing written
-    write-fits h l =
-        (sym (cond-false (ltb (length out) (at + size s i)) _ _ (le-ltb (length out) (at + size s i) h) ∙ cond-true (ltb i (length (s .parts))) _ _ (lt-ltb i (length (s .parts)) l)),
-         sym (cond-false (ltb (length out) (at + size s i)) out (cond (ltb i (length (s .parts))) (laid out at (block-bytes (block s i))) out) (le-ltb (length out) (at + size s i) h)
-           ∙ cond-true (ltb i (length (s .parts))) (laid out at (block-bytes (block s i))) out (lt-ltb i (length (s .parts)) l)))
+    write-fits h l = (
+      sym (cond-false (ltb (length out) (at + size s i)) _ _ (le-ltb (length out) (at + size s i) h) ∙ cond-true (ltb i (length (s .parts))) _ _ (lt-ltb i (length (s .parts)) l)),
+      sym (cond-false (ltb (length out) (at + size s i)) out (cond (ltb i (length (s .parts))) (laid out at (block-bytes (block s i))) out) (le-ltb (length out) (at + size s i) h)
+          ∙ cond-true (ltb i (length (s .parts))) (laid out at (block-bytes (block s i))) out (lt-ltb i (length (s .parts)) l)),
+    )

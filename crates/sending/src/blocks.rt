@@ -3,10 +3,10 @@ ghost use mathlib.Core.Path.{_≡_};
 ghost use Rattle.sending.specs.Sendings.{block};
 ghost use Rattle.sending.specs.Model.{sent, shown};
 ghost use Rattle.sending.specs.Writing.{wanted};
-use crc::crc32;
-use refusal::Refusal;
 use super::block::Block;
 use super::sending::Sending;
+use crc::crc32;
+use refusal::Refusal;
 
 impl Sending {
     // The message CRC, where block i carries it: the last of several does.
@@ -31,7 +31,14 @@ impl Sending {
         let check = self.check(i);
         match self.part(usize::from(i)) {
             None => Err(Refusal::NotOfASending),
-            Some(body) => Ok(Block { number: self.number, version: self.version, part: i, last, body, check }),
+            Some(body) => Ok(Block {
+                number: self.number,
+                version: self.version,
+                part: i,
+                last,
+                body,
+                check,
+            }),
         }
     }
 }

@@ -6,13 +6,13 @@ ghost use lib.ListN.{length, take, drop};
 ghost use Rattle.sending.specs.Cuts.{room-bytes, capacity, part-count, cut-parts, cutting, CutRight};
 ghost use Rattle.sending.specs.Given.{unsuited};
 ghost use Rattle.sending.specs.Model.{sent, told};
-use refusal::Refusal;
 use super::given::keep;
 use super::given::not_of_a_sending;
 use super::limits::BESIDE_BODY;
 use super::limits::WORD;
 use super::room::Room;
 use super::sending::Sending;
+use refusal::Refusal;
 
 // How many bytes of a message go into n parts.
 fn fits_into(room: Room, n: usize) -> usize

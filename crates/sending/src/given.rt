@@ -6,20 +6,24 @@ ghost use lib.ListN.{length};
 ghost use Rattle.std.specs.declared.option.Option.the-variants.{None};
 ghost use Rattle.sending.specs.Given.{part-limit, first-long, texts, unsuited, of-parts};
 ghost use Rattle.sending.specs.Model.{sent, told};
-use refusal::Refusal;
 use super::limits::LAST_MOST;
-use super::limits::PARTS_MOST;
 use super::limits::PART_MOST;
+use super::limits::PARTS_MOST;
 use super::limits::VERSION_MOST;
 use super::sending::Sending;
 use super::store::lay_parts;
+use refusal::Refusal;
 
 // How many bytes part k of n may have.
 fn limit(n: usize, k: usize) -> usize
     requires { ⌜ k < n ⌝ }
     ensures { λ r. ⌜ r ≡ part-limit n k ⌝ }
 {
-    if n >= 2 && k + 1 == n { LAST_MOST } else { PART_MOST }
+    if n >= 2 && k + 1 == n {
+        LAST_MOST
+    } else {
+        PART_MOST
+    }
 }
 
 // The length of the first part that is too long.
@@ -52,7 +56,13 @@ pub(crate) fn keep(number: u8, version: u8, parts: &[&[u8]]) -> Sending
     let count = parts.len();
     let places = kept.places;
     let bytes = kept.bytes;
-    Sending { number, version, count, places, bytes }
+    Sending {
+        number,
+        version,
+        count,
+        places,
+        bytes,
+    }
 }
 
 impl Sending {

@@ -10,6 +10,7 @@ mod room;
 mod sending;
 mod store;
 mod write;
+
 pub use block::Block;
 pub use room::Room;
 pub use sending::Sending;

@@ -6,12 +6,12 @@ ghost use Rattle.bytes.specs.Laid.{laid};
 ghost use Rattle.sending.specs.Wire.{count, head, covered, check-bytes, block-bytes};
 ghost use Rattle.sending.specs.Model.{means, sent};
 ghost use Rattle.sending.specs.Writing.{size, wanted-size, writing, written};
-use crc::crc32;
-use refusal::Refusal;
 use super::block::Block;
 use super::limits::BESIDE_BODY;
 use super::limits::WORD;
 use super::sending::Sending;
+use crc::crc32;
+use refusal::Refusal;
 
 // Writes some bytes at a place, and answers where they end.
 fn lay(out: &mut [u8], at: usize, bytes: &[u8]) -> usize
@@ -60,7 +60,11 @@ impl<'a> Block<'a> {
         ensures { λ r. ⌜ r ≡ head (means (now (self .entry))) ⌝ }
     {
         let follows = (self.length() - 2) as u8;
-        [self.number, follows, self.version * 16 + self.part * 4 + self.last]
+        [
+            self.number,
+            follows,
+            self.version * 16 + self.part * 4 + self.last,
+        ]
     }
 
     // Writes all of the block but its own CRC, and answers where that ends.

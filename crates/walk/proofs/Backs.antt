@@ -148,7 +148,7 @@ both-last : (i l : ℕ) → ltb 0 i && eqb i l ≡ several-last i l
 both-last i l =
     ⊎-elim
     (λ (e : i ≡ l). let t = eq-eqb i l e in
-      ap (λ u. ltb 0 i && u) t ∙ and-true (ltb 0 i) ∙ ap (ltb 0) e ∙ not-first l ∙ sym (ap (λ u. u && not (eqb l 0)) t))
+    ap (λ u. ltb 0 i && u) t ∙ and-true (ltb 0 i) ∙ ap (ltb 0) e ∙ not-first l ∙ sym (ap (λ u. u && not (eqb l 0)) t))
     (λ (n : i ≡ l → ⊥). let t = ne-eqb i l n in ap (λ u. ltb 0 i && u) t ∙ and-false (ltb 0 i) ∙ sym (ap (λ u. u && not (eqb l 0)) t))
     (cases-eq i l)
 

@@ -15,7 +15,7 @@ use Rattle.std.specs.declared.option.Option.the-variants.{Some}
 use Rattle.crc.specs.Crc.{crc}
 use Rattle.walk.specs.declared.entry.Entry.{Entry}
 use Rattle.walk.specs.declared.entry.Cause.{Cause}
-use Rattle.walk.specs.declared.entry.Cause.the-variants.{Cut, Crc, Part, Short}
+use Rattle.walk.specs.declared.entry.Cause.the-variants.{Torn, Crc, Part, Short}
 use Rattle.walk.specs.Fields.{word, count-of, part-of, last-of, least-count, cause-at, cause-number, block-at}
 use Rattle.walk.specs.Entries.{Item, read, fault, item-at, finishes, taken, scan, item}
 use Rattle.walk.specs.Steps.{Found}
@@ -42,7 +42,7 @@ unfolding cause-at
 sound bs h5 h2 hc hp hl = grind (arith, tells)
 
 some-cause : (c : Cause) → 0 < cause-number c
-some-cause Cut = omega arith
+some-cause Torn = omega arith
 some-cause Crc = omega arith
 some-cause Part = omega arith
 some-cause Short = omega arith
@@ -104,7 +104,7 @@ pub start : (payload : List ℕ) (place : ℕ) → place ≡ min (length payload
 start payload place e =
     ⊎-elim
     (λ (h : length payload < 2).
-      scan-end place (drop place payload) (ap (λ l. getD l 0 0) (drop-all place payload (omega arith)))
-      ∙ sym (scan-end 2 (drop 2 payload) (ap (λ l. getD l 0 0) (drop-all 2 payload (omega arith)))))
+    scan-end place (drop place payload) (ap (λ l. getD l 0 0) (drop-all place payload (omega arith)))
+    ∙ sym (scan-end 2 (drop 2 payload) (ap (λ l. getD l 0 0) (drop-all 2 payload (omega arith)))))
     (λ (h : 2 ≤ length payload). let n : place ≡ 2 = omega arith in ap (λ p. scan 0 p (drop p payload)) n)
     (cases-lt (length payload) 2)

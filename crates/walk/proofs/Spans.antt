@@ -35,9 +35,11 @@ behind zero p [] = tt
 behind (suc k) p [] = tt
 behind zero p (b ∷ bs) =
     cond-both (eqb b 0) [] _ (Every (λ j. p + 0 ≤ place-of j)) (λ _. tt)
-    (λ _. (omega (arith, place-item p (b ∷ bs)),
+    (λ _. (
+      omega (arith, place-item p (b ∷ bs)),
       cond-both (finishes (cause-at (b ∷ bs))) [] _ (Every (λ j. p + 0 ≤ place-of j)) (λ _. tt)
-      (λ _. weaken (λ j h. omega arith) (scan (suc (count-of (b ∷ bs))) (suc p) bs) (behind (suc (count-of (b ∷ bs))) (suc p) bs))))
+          (λ _. weaken (λ j h. omega arith) (scan (suc (count-of (b ∷ bs))) (suc p) bs) (behind (suc (count-of (b ∷ bs))) (suc p) bs)),
+    ))
 behind (suc k) p (b ∷ bs) = weaken (λ j h. omega arith) (scan k (suc p) bs) (behind k (suc p) bs)
 
 -- the bytes behind the first
@@ -55,9 +57,11 @@ in-line payload zero p (b ∷ bs) e =
     let m = ap (λ q. getD payload (q + 1) 0) at in
     let end : suc p + suc c ≡ end-of payload (item-at p (b ∷ bs)) = omega arith in
     cond-both (eqb b 0) [] _ (InLine payload (p + 0)) (λ _. tt)
-    (λ _. (at ∙ sym (add-zero p),
+    (λ _. (
+      at ∙ sym (add-zero p),
       cond-both (finishes (cause-at (b ∷ bs))) [] _ (InLine payload (end-of payload (item-at p (b ∷ bs)))) (λ _. tt)
-      (λ _. subst (λ q. InLine payload q (scan (suc c) (suc p) bs)) end (in-line payload (suc c) (suc p) bs (tail-is payload p b bs e)))))
+          (λ _. subst (λ q. InLine payload q (scan (suc c) (suc p) bs)) end (in-line payload (suc c) (suc p) bs (tail-is payload p b bs e))),
+    ))
 in-line payload (suc k) p (b ∷ bs) e =
     let n : suc p + k ≡ p + suc k = omega arith in
     subst (λ q. InLine payload q (scan k (suc p) bs)) n (in-line payload k (suc p) bs (tail-is payload p b bs e))
@@ -74,7 +78,7 @@ apart payload zero p (b ∷ bs) e =
     let end : end-of payload (item-at p (b ∷ bs)) ≡ suc p + suc c = omega arith in
     cond-both (eqb b 0) [] _ (Apart payload) (λ _. tt)
     (λ _. cond-both (finishes (cause-at (b ∷ bs))) [] _ (λ is. Every (λ j. end-of payload (item-at p (b ∷ bs)) ≤ place-of j) is × Apart payload is) (λ _. (tt, tt))
-      (λ _. (weaken (λ j h. omega arith) (scan (suc c) (suc p) bs) (behind (suc c) (suc p) bs), apart payload (suc c) (suc p) bs (tail-is payload p b bs e))))
+    (λ _. (weaken (λ j h. omega arith) (scan (suc c) (suc p) bs) (behind (suc c) (suc p) bs), apart payload (suc c) (suc p) bs (tail-is payload p b bs e))))
 apart payload (suc k) p (b ∷ bs) e = apart payload k (suc p) bs (tail-is payload p b bs e)
 
 -- ---- how many
@@ -96,9 +100,9 @@ seven-each (suc k) p [] = omega arith
 seven-each zero p (b ∷ bs) =
     cond-both (eqb b 0) [] _ (λ xs. 7 * length (blocks-read xs) ≤ suc (length bs) - 0) (λ _. omega arith)
     (λ _. cond-both (finishes (cause-at (b ∷ bs))) [] _ (λ xs. 7 * length (blocks-read (item-at p (b ∷ bs) ∷ xs)) ≤ suc (length bs) - 0)
-      (λ h. omega (arith, seven-stop p (b ∷ bs) h))
-      (λ h. let f = fits (b ∷ bs) (λ e. grind (arith, tells)) in
-        omega (arith, f .0, seven-item p (b ∷ bs) (scan (suc (count-of (b ∷ bs))) (suc p) bs) h, seven-each (suc (count-of (b ∷ bs))) (suc p) bs)))
+    (λ h. omega (arith, seven-stop p (b ∷ bs) h))
+    (λ h. let f = fits (b ∷ bs) (λ e. grind (arith, tells)) in
+    omega (arith, f .0, seven-item p (b ∷ bs) (scan (suc (count-of (b ∷ bs))) (suc p) bs) h, seven-each (suc (count-of (b ∷ bs))) (suc p) bs)))
 seven-each (suc k) p (b ∷ bs) = omega (arith, seven-each k (suc p) bs)
 
 -- and so does each entry but one that finishes the line
@@ -109,9 +113,9 @@ seven-entry (suc k) p [] = omega arith
 seven-entry zero p (b ∷ bs) =
     cond-both (eqb b 0) [] _ (λ xs. 7 * length xs ≤ suc (length bs) - 0 + 6) (λ _. omega arith)
     (λ _. cond-both (finishes (cause-at (b ∷ bs))) [] _ (λ xs. 7 * suc (length xs) ≤ suc (length bs) - 0 + 6)
-      (λ h. omega arith)
-      (λ h. let f = fits (b ∷ bs) (λ e. grind (arith, tells)) in
-        omega (arith, f .0, f .1, seven-entry (suc (count-of (b ∷ bs))) (suc p) bs)))
+    (λ h. omega arith)
+    (λ h. let f = fits (b ∷ bs) (λ e. grind (arith, tells)) in
+    omega (arith, f .0, f .1, seven-entry (suc (count-of (b ∷ bs))) (suc p) bs)))
 seven-entry (suc k) p (b ∷ bs) = omega (arith, seven-entry k (suc p) bs)
 
 pub few : (payload : List ℕ) → Few payload (entries payload)
@@ -136,10 +140,11 @@ right-block payload p bs e h =
     let n = block-size bs h in
     let l : length bs ≡ length payload - p = ap length e ∙ length-drop p payload in
     let four : length (block-bytes (block-at bs)) - 4 ≡ count-of bs - 2 = omega arith in
-    let end : p + length (block-bytes (block-at bs)) - 4 ≡ p + (count-of bs - 2) = omega (arith, f) in
-    (in-order bs h,
-     omega (arith, f, n, l),
-     (λ i. crc (take (four i) (sym e i))) ∙ crc-holds bs h ∙ ap (λ x. word (drop (count-of bs - 2) x)) e ∙ ap word (drop-drop (count-of bs - 2) p payload) ∙ ap (λ m. word (drop m payload)) (sym end))
+    let end : p + length (block-bytes (block-at bs)) - 4 ≡ p + (count-of bs - 2) = omega (arith, f) in (
+      in-order bs h,
+      omega (arith, f, n, l),
+      (λ i. crc (take (four i) (sym e i))) ∙ crc-holds bs h ∙ ap (λ x. word (drop (count-of bs - 2) x)) e ∙ ap word (drop-drop (count-of bs - 2) p payload) ∙ ap (λ m. word (drop m payload)) (sym end),
+    )
 
 right-item : (payload : List ℕ) (p : ℕ) (bs : List ℕ) → bs ≡ drop p payload → Right payload (item-at p bs)
 unfolding item-at
@@ -152,6 +157,8 @@ all-right payload zero p [] e = tt
 all-right payload (suc k) p [] e = tt
 all-right payload zero p (b ∷ bs) e =
     cond-both (eqb b 0) [] _ (Every (Right payload)) (λ _. tt)
-    (λ _. (right-item payload p (b ∷ bs) e,
-      cond-both (finishes (cause-at (b ∷ bs))) [] _ (Every (Right payload)) (λ _. tt) (λ _. all-right payload (suc (count-of (b ∷ bs))) (suc p) bs (tail-is payload p b bs e))))
+    (λ _. (
+      right-item payload p (b ∷ bs) e,
+      cond-both (finishes (cause-at (b ∷ bs))) [] _ (Every (Right payload)) (λ _. tt) (λ _. all-right payload (suc (count-of (b ∷ bs))) (suc p) bs (tail-is payload p b bs e)),
+    ))
 all-right payload (suc k) p (b ∷ bs) e = all-right payload k (suc p) bs (tail-is payload p b bs e)

@@ -9,7 +9,7 @@ use Rattle.std.specs.declared.option.Option.the-variants.{Some, None}
 use Rattle.crc.specs.Crc.{crc}
 use Rattle.sending.specs.Sendings.{Block}
 use Rattle.walk.specs.declared.entry.Cause.{Cause}
-use Rattle.walk.specs.declared.entry.Cause.the-variants.{Cut, Crc, Part, Short}
+use Rattle.walk.specs.declared.entry.Cause.the-variants.{Torn, Crc, Part, Short}
 
 -- the first four bytes as one number, the most significant first
 abbrev pub word : List ℕ → ℕ
@@ -19,10 +19,11 @@ word bs = getD bs 0 0 * 16777216 + getD bs 1 0 * 65536 + getD bs 2 0 * 256 + get
 abbrev pub count-of : List ℕ → ℕ
 count-of bs = getD bs 1 0
 
--- the part's number, and the last part's
+-- the part's number
 abbrev pub part-of : List ℕ → ℕ
 part-of bs = getD bs 2 0 / 4 % 4
 
+-- the last part's number
 abbrev pub last-of : List ℕ → ℕ
 last-of bs = getD bs 2 0 % 4
 
@@ -39,20 +40,20 @@ abbrev pub crc-right : List ℕ → Bool
 crc-right bs = eqb (crc (take (count-of bs - 2) bs)) (word (drop (count-of bs - 2) bs))
 
 -- cause 1: no count byte, a count under 5, or a block past the end
-abbrev pub is-cut : List ℕ → Bool
-is-cut bs = ltb (length bs) 2 || (ltb (count-of bs) 5 || ltb (length bs) (count-of bs + 2))
+abbrev pub is-torn : List ℕ → Bool
+is-torn bs = ltb (length bs) 2 || (ltb (count-of bs) 5 || ltb (length bs) (count-of bs + 2))
 
--- the first cause for which the block isn't read, 0 where it is read: cut, CRC wrong, part above last, no room for the message CRC
+-- the first cause for which the block isn't read, 0 where it is read: torn, CRC wrong, part above last, no room for the message CRC
 unfoldable pub cause-at : List ℕ → ℕ
 cause-at bs =
-    cond (is-cut bs) 1
+    cond (is-torn bs) 1
     (cond (not (crc-right bs)) 2
     (cond (ltb (last-of bs) (part-of bs)) 3
     (cond (has-check bs && ltb (count-of bs) 9) 4 0)))
 
 -- the number of a cause
 abbrev pub cause-number : Cause → ℕ
-cause-number Cut = 1
+cause-number Torn = 1
 cause-number Crc = 2
 cause-number Part = 3
 cause-number Short = 4
@@ -71,5 +72,5 @@ block-at bs =
       part = part-of bs;
       last = last-of bs;
       body = take (cond (has-check bs) (count-of bs - 9) (count-of bs - 5)) (drop 3 bs);
-      check = cond (has-check bs) (Some (word (drop (count-of bs - 6) bs))) None
+      check = cond (has-check bs) (Some (word (drop (count-of bs - 6) bs))) None;
     }

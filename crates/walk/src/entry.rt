@@ -5,7 +5,7 @@ use sending::Block;
 #[derive(Clone, Copy, PartialEq, Eq, Debug)]
 pub enum Cause {
     // no count byte, a count under 5, or a block past the payload's end
-    Cut,
+    Torn,
     // CRC_32 is wrong
     Crc,
     // the part's number is above the last part's
@@ -17,7 +17,14 @@ pub enum Cause {
 // A block that is read, or a fault. It borrows the payload's bytes.
 #[derive(Clone, Copy)]
 pub enum Entry<'a> {
-    Block { place: usize, block: Block<'a> },
+    Block {
+        place: usize,
+        block: Block<'a>,
+    },
     // the number byte is what stands where the block begins
-    Fault { place: usize, cause: Cause, number: u8 },
+    Fault {
+        place: usize,
+        cause: Cause,
+        number: u8,
+    },
 }

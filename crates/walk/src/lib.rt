@@ -3,6 +3,7 @@
 mod entry;
 mod parse;
 mod walk;
+
 pub use entry::Cause;
 pub use entry::Entry;
 pub use parse::WalkIterator;

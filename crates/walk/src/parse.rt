@@ -8,11 +8,11 @@ ghost use Rattle.walk.specs.Fields.{word, count-of, cause-at, cause-number, ca
 ghost use Rattle.walk.specs.Entries.{finishes, taken, entries};
 ghost use Rattle.walk.specs.Laws.{Reads-sent-blocks, InLine, Apart, Few, Right};
 ghost use Rattle.walk.specs.Steps.{ahead, Steps, bytes-left, Found};
-use crc::crc32;
-use sending::Block;
 use super::entry::Cause;
 use super::entry::Entry;
 use super::walk::Walk;
+use crc::crc32;
+use sending::Block;
 
 // Where the first block of a payload begins.
 const FIRST: usize = 2;
@@ -27,7 +27,7 @@ impl Cause {
         ensures answer { λ r. ⌜ r ≡ cause-number self ⌝ }
     {
         match self {
-            Cause::Cut => 1,
+            Cause::Torn => 1,
             Cause::Crc => 2,
             Cause::Part => 3,
             Cause::Short => 4,
@@ -49,11 +49,11 @@ fn cause_of(rest: &[u8]) -> Option<Cause>
 {
     let size = rest.len();
     if size < 2 {
-        return Some(Cause::Cut);
+        return Some(Cause::Torn);
     }
     let count = rest[1] as usize;
     if count < COUNT_LEAST || size < count + 2 {
-        return Some(Cause::Cut);
+        return Some(Cause::Torn);
     }
     let end = count - 2;
     if crc32(&rest[0..end]) != word_at(rest, end) {
@@ -84,10 +84,24 @@ fn block_of(rest: &[u8]) -> Block<'_>
     if part == last && last != 0 {
         let body = &rest[3..count - 6];
         let check = Some(word_at(rest, count - 6));
-        return Block { number, version, part, last, body, check };
+        return Block {
+            number,
+            version,
+            part,
+            last,
+            body,
+            check,
+        };
     }
     let body = &rest[3..count - 2];
-    Block { number, version, part, last, body, check: None }
+    Block {
+        number,
+        version,
+        part,
+        last,
+        body,
+        check: None,
+    }
 }
 
 // Whether a cause finishes the line: nothing then tells where a next block would begin.
@@ -95,7 +109,7 @@ fn ends_line(cause: Cause) -> bool
     ensures { λ r. ⌜ r ≡ finishes (cause-number cause) ⌝ }
 {
     match cause {
-        Cause::Cut => true,
+        Cause::Torn => true,
         Cause::Crc => true,
         Cause::Part => false,
         Cause::Short => false,
@@ -122,10 +136,23 @@ fn entry_at<'a>(rest: &'a [u8], place: usize) -> Option<(Entry<'a>, usize)>
     }
     let number = rest[0];
     match cause_of(rest) {
-        None => Some((Entry::Block { place, block: block_of(rest) }, 2 + rest[1] as usize)),
+        None => Some((
+            Entry::Block {
+                place,
+                block: block_of(rest),
+            },
+            2 + rest[1] as usize,
+        )),
         Some(cause) => {
             let past = past_fault(cause, rest);
-            Some((Entry::Fault { place, cause, number }, past))
+            Some((
+                Entry::Fault {
+                    place,
+                    cause,
+                    number,
+                },
+                past,
+            ))
         }
     }
 }

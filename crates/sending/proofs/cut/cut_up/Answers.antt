@@ -23,7 +23,7 @@ keep-requires-then-count-eq2 c κs =
     let b : c .split .result .1 .now ≡ drop (k - 7) m = c .split .ensures .others ∙ ap (λ n. drop n m) w in
     record {
       short = (λ i. first-long 2 0 (a i ∷ b i ∷ [])) ∙ cut-short-at k 2 m (small (c .args .room)) (c .pre .short) (sym (c .parts-for-count .ensures) ∙ c .if-count-eq2 .taken);
-      suited = suits-more (c .args .number) (c .args .version) 2 (c .pre .suited) (omega arith) (omega arith)
+      suited = suits-more (c .args .number) (c .args .version) 2 (c .pre .suited) (omega arith) (omega arith);
     }
 
 pub keep-requires-then-count-eq3 : need.keep-requires-then-count-eq3
@@ -37,7 +37,7 @@ keep-requires-then-count-eq3 c κs =
     let e : c .split-2 .result .1 .now ≡ drop (k - 7) (drop (k - 7) m) = c .split-2 .ensures .others ∙ (λ i. drop (w i) (b i)) in
     record {
       short = (λ i. first-long 3 0 (a i ∷ d i ∷ e i ∷ [])) ∙ cut-short-at k 3 m (small (c .args .room)) (c .pre .short) (sym (c .parts-for-count .ensures) ∙ c .if-count-eq3 .taken);
-      suited = suits-more (c .args .number) (c .args .version) 3 (c .pre .suited) (omega arith) (omega arith)
+      suited = suits-more (c .args .number) (c .args .version) 3 (c .pre .suited) (omega arith) (omega arith);
     }
 
 pub keep-requires-2 : need.keep-requires-2
@@ -55,5 +55,5 @@ keep-requires-2 c κs =
     let g : c .split-3 .result .1 .now ≡ drop (k - 7) (drop (k - 7) (drop (k - 7) m)) = c .split-3 .ensures .others ∙ (λ i. drop (w i) (e i)) in
     record {
       short = (λ i. first-long 4 0 (a i ∷ d i ∷ f i ∷ g i ∷ [])) ∙ cut-short-at k 4 m (small (c .args .room)) (c .pre .short) four;
-      suited = suits-more (c .args .number) (c .args .version) 4 (c .pre .suited) (omega arith) (omega arith)
+      suited = suits-more (c .args .number) (c .args .version) 4 (c .pre .suited) (omega arith) (omega arith);
     }

@@ -9,5 +9,5 @@ returns c =
     let xs = c .args .bytes .now in
     record {
       first = take-up-to xs (c .args .width) (c .min-most .result) (omega arith);
-      others = take-rest xs (c .min-most .result) ∙ drop-up-to xs (c .args .width) (c .min-most .result) (omega arith)
+      others = take-rest xs (c .min-most .result) ∙ drop-up-to xs (c .args .width) (c .min-most .result) (omega arith);
     }

@@ -25,12 +25,19 @@ ghost-result c =
     let s = suited (c .args .number) (c .args .version) (length ps) (c .pre .suited) in
     let n = texts-length (c .args .parts .now) in
     let t : length (joint ps) ≤ 200 = total ps (c .pre .short) (omega arith) in
-    let rule = rule-of (c .args .number) (c .args .version) ps (c .pre .short) (c .pre .suited) (omega arith) (c .lay-parts-kept .ensures .plain) in
-    (omega arith,
-     (c .lay-parts-kept .ensures .four,
-     (rising-all (length (c .args .parts .now)) (c .lay-parts-kept .result .places) ps (c .lay-parts-kept .ensures .places) (sym n),
-      ((λ k h. omega (arith, within-all (length (c .args .parts .now)) (c .lay-parts-kept .result .places) ps (c .lay-parts-kept .ensures .places) (sym n) k h)),
-       (∣ subst (λ (qs : List (List ℕ)). IsSending (record { number = c .args .number; version = c .args .version; parts = qs })) (sym (stored-parts (length (c .args .parts .now)) (c .lay-parts-kept .result .places) (c .lay-parts-kept .result .bytes) ps (c .lay-parts-kept .ensures .places) (c .lay-parts-kept .ensures .bytes))) rule ∣₁, tt)))))
+    let rule = rule-of (c .args .number) (c .args .version) ps (c .pre .short) (c .pre .suited) (omega arith) (c .lay-parts-kept .ensures .plain) in (
+      omega arith,
+      (
+        c .lay-parts-kept .ensures .four,
+        (
+          rising-all (length (c .args .parts .now)) (c .lay-parts-kept .result .places) ps (c .lay-parts-kept .ensures .places) (sym n),
+          (
+            (λ k h. omega (arith, within-all (length (c .args .parts .now)) (c .lay-parts-kept .result .places) ps (c .lay-parts-kept .ensures .places) (sym n) k h)),
+            (∣ subst (λ (qs : List (List ℕ)). IsSending (record { number = c .args .number; version = c .args .version; parts = qs })) (sym (stored-parts (length (c .args .parts .now)) (c .lay-parts-kept .result .places) (c .lay-parts-kept .result .bytes) ps (c .lay-parts-kept .ensures .places) (c .lay-parts-kept .ensures .bytes))) rule ∣₁, tt),
+          ),
+        ),
+      ),
+    )
 
 pub returns : need.returns
 returns c = ap (λ (qs : List (List ℕ)). record { number = c .args .number; version = c .args .version; parts = qs }) (stored-parts (length (c .args .parts .now)) (c .lay-parts-kept .result .places) (c .lay-parts-kept .result .bytes) (texts (c .args .parts .now)) (c .lay-parts-kept .ensures .places) (c .lay-parts-kept .ensures .bytes))

@@ -19,11 +19,12 @@ loop-byte-again c =
     let old = c .args .bytes .now in
     let h : i < length part = omega arith in
     let e : length (take i part) ≡ i = length-take-le i part (omega arith) in
-    let n : length old ≡ 200 = c .told-bytes in
-    (laid-byte old (c .loop-byte .bytes) (c .args .at) (take i part) (c .loop-byte .end) (getD part i 0) (c .loop-byte .inv .0) (omega arith) (omega arith)
-       ∙ ap (laid old (c .args .at)) (sym (take-more part i 0 h)),
-     omega arith,
-     below-more _ _ (c .loop-byte .inv .2) (omega arith))
+    let n : length old ≡ 200 = c .told-bytes in (
+      laid-byte old (c .loop-byte .bytes) (c .args .at) (take i part) (c .loop-byte .end) (getD part i 0) (c .loop-byte .inv .0) (omega arith) (omega arith)
+          ∙ ap (laid old (c .args .at)) (sym (take-more part i 0 h)),
+      omega arith,
+      below-more _ _ (c .loop-byte .inv .2) (omega arith),
+    )
 
 pub returns : need.returns
 returns c =
@@ -32,5 +33,5 @@ returns c =
     record {
       bytes = c .loop-byte .inv .0 ∙ ap (laid (c .args .bytes .now) (c .args .at)) (take-all (c .loop-byte .byte-index) part n);
       end = omega arith;
-      plain = λ i h. c .loop-byte .inv .2 i (omega arith)
+      plain = λ i h. c .loop-byte .inv .2 i (omega arith);
     }

@@ -36,16 +36,17 @@ loop-i-again c =
     let end : c .lay-part-at .result ≡ c .loop-i .at + length part = omega (arith, c .lay-part-at .ensures .end, size) in
     let long : length (joint (take (i + 1) ps)) ≡ length (joint (take i ps)) + length part = ap length joins ∙ length-append (joint (take i ps)) part in
     let laid-is : c .lay-part-at .last .bytes ≡ laid (c .loop-i .bytes) (c .loop-i .at) part = c .lay-part-at .ensures .bytes ∙ ap (laid (c .loop-i .bytes) (c .loop-i .at)) (sym t) in
-    let e : c .lay-part-at .result ≡ 0 + length (joint (take i ps)) + length part = omega (arith, end, inv .2) in
-    (ap length refl ∙ length-set (c .loop-i .places) i (c .lay-part-at .result) ∙ inv .0,
-     c .lay-part-at .array-long,
-     omega (arith, end, long, inv .2),
-     take-more-set (c .loop-i .places) i (c .lay-part-at .result) (omega (arith, inv .0, c .pre .few, c .loop-i-test .taken))
-       ∙ (λ j. inv .3 j ++ e j ∷ [])
-       ∙ sym (ends-more 0 (take i ps) part)
-       ∙ ap (ends 0) (sym more),
-     (λ j. take (end j) (laid-is j)) ∙ take-laid (c .loop-i .bytes) (c .loop-i .at) part (omega (arith, inv .1)) ∙ ap (λ l. l ++ part) (inv .4) ∙ sym joins,
-     plain-next ps i h (inv .5) (λ j l. subst (λ (p : List ℕ). getD p j 0 < 256) (sym t) (c .lay-part-at .ensures .plain j (omega (arith, size)))))
+    let e : c .lay-part-at .result ≡ 0 + length (joint (take i ps)) + length part = omega (arith, end, inv .2) in (
+      ap length refl ∙ length-set (c .loop-i .places) i (c .lay-part-at .result) ∙ inv .0,
+      c .lay-part-at .array-long,
+      omega (arith, end, long, inv .2),
+      take-more-set (c .loop-i .places) i (c .lay-part-at .result) (omega (arith, inv .0, c .pre .few, c .loop-i-test .taken))
+          ∙ (λ j. inv .3 j ++ e j ∷ [])
+          ∙ sym (ends-more 0 (take i ps) part)
+          ∙ ap (ends 0) (sym more),
+      (λ j. take (end j) (laid-is j)) ∙ take-laid (c .loop-i .bytes) (c .loop-i .at) part (omega (arith, inv .1)) ∙ ap (λ l. l ++ part) (inv .4) ∙ sym joins,
+      plain-next ps i h (inv .5) (λ j l. subst (λ (p : List ℕ). getD p j 0 < 256) (sym t) (c .lay-part-at .ensures .plain j (omega (arith, size)))),
+    )
 
 pub returns : need.returns
 returns c =
@@ -59,5 +60,5 @@ returns c =
       four = inv .0;
       places = ap (λ m. take m (c .loop-i .places)) (sym same) ∙ inv .3 ∙ ap (ends 0) all;
       bytes = ap (λ m. take m (c .loop-i .bytes)) (sym at) ∙ inv .4 ∙ ap joint all;
-      plain = subst Plain all (inv .5)
+      plain = subst Plain all (inv .5);
     }

@@ -10,5 +10,5 @@ pub returns-in-None : need.returns-in-None
 returns-in-None c =
     record {
       out = sym (ap (λ k. laid (c .args .out .now) (c .args .at) (check-bytes k)) (c .in-None .is) ∙ laid-none (c .args .out .now) (c .args .at));
-      end = omega (arith, ap (λ k. length (check-bytes k)) (c .in-None .is))
+      end = omega (arith, ap (λ k. length (check-bytes k)) (c .in-None .is));
     }

@@ -35,8 +35,8 @@ returns c =
     let e : c .write-covered-end .last .out ≡ laid old at (covered b) = c .write-covered-end .ensures .out in
     let m : midOf at (end - at) (laid old at (covered b)) ≡ covered b = mid-laid old at (covered b) (end - at) (omega (arith, c .write-covered-end .ensures .end)) (omega (arith, length-block b, c .pre .room)) in
     let w : c .to-be-bytes-word .result ≡ word-bytes (crc (covered b)) =
-        c .to-be-bytes-word .ensures ∙ ap word-bytes (c .crc32 .ensures .answer ∙ ap (λ l. crc (midOf at (end - at) l)) e ∙ ap crc m) in
+    c .to-be-bytes-word .ensures ∙ ap word-bytes (c .crc32 .ensures .answer ∙ ap (λ l. crc (midOf at (end - at) l)) e ∙ ap crc m) in
     let n : length (c .to-be-bytes-word .result) ≡ 4 = ap length w in
     let all : c .lay .last .out ≡ laid old at (covered b ++ c .to-be-bytes-word .result) =
-        laid-more old (c .write-covered-end .last .out) (c .lay .last .out) at end (covered b) (c .to-be-bytes-word .result) e (c .write-covered-end .ensures .end) (omega (arith, length-block b, length-covered b, c .pre .room)) (c .lay .ensures .out) in
+    laid-more old (c .write-covered-end .last .out) (c .lay .last .out) at end (covered b) (c .to-be-bytes-word .result) e (c .write-covered-end .ensures .end) (omega (arith, length-block b, length-covered b, c .pre .room)) (c .lay .ensures .out) in
     record { out = all ∙ ap (λ l. laid old at (covered b ++ l)) w; end = omega (arith, length-block b, length-covered b, c .lay .ensures .end) }

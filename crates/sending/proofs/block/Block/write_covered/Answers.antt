@@ -26,11 +26,11 @@ returns c =
     let first = c .opening-first .ensures in
     let h : length (c .opening-first .result) ≡ 3 = ap length first ∙ length-head b in
     let three : c .lay-check .last .out ≡ laid (c .args .out .now) (c .args .at) (c .opening-first .result ++ (b .body ++ check-bytes (b .check))) =
-        laid-three (c .args .out .now) (c .lay-body-at .last .out) (c .lay-check-at .last .out) (c .lay-check .last .out) (c .args .at) (c .lay-body-at .result) (c .lay-check-at .result)
-          (c .opening-first .result) (b .body) (check-bytes (b .check))
-          (c .lay-body-at .ensures .out) (c .lay-body-at .ensures .end) (c .lay-check-at .ensures .out) (c .lay-check-at .ensures .end) (c .lay-check .ensures .out)
-          (omega (arith, h, length-block b, c .lay-body-at .ensures .end, c .lay-check-at .ensures .end)) in
+    laid-three (c .args .out .now) (c .lay-body-at .last .out) (c .lay-check-at .last .out) (c .lay-check .last .out) (c .args .at) (c .lay-body-at .result) (c .lay-check-at .result)
+    (c .opening-first .result) (b .body) (check-bytes (b .check))
+    (c .lay-body-at .ensures .out) (c .lay-body-at .ensures .end) (c .lay-check-at .ensures .out) (c .lay-check-at .ensures .end) (c .lay-check .ensures .out)
+    (omega (arith, h, length-block b, c .lay-body-at .ensures .end, c .lay-check-at .ensures .end)) in
     record {
       out = three ∙ ap (laid (c .args .out .now) (c .args .at)) (ap (λ l. l ++ (b .body ++ check-bytes (b .check))) first ∙ sym (append-assoc (head b) (b .body) (check-bytes (b .check))));
-      end = omega (arith, h, length-covered b, c .lay-body-at .ensures .end, c .lay-check-at .ensures .end, c .lay-check .ensures .end)
+      end = omega (arith, h, length-covered b, c .lay-body-at .ensures .end, c .lay-check-at .ensures .end, c .lay-check .ensures .end);
     }

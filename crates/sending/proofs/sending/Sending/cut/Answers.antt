@@ -19,8 +19,8 @@ pub returns-then-not-of-a-sending : need.returns-then-not-of-a-sending
 returns-then-not-of-a-sending c =
     record {
       answer = sym (cut-rest (room-bytes (c .args .room)) (c .args .number) (c .args .version) (c .args .message .now) (omega arith)
-        ∙ cond-true (unsuited (c .args .number) (c .args .version) 1) _ _ (sym (c .if-not-of-a-sending .ensures tt)));
-      cut-is-smallest = tt
+          ∙ cond-true (unsuited (c .args .number) (c .args .version) 1) _ _ (sym (c .if-not-of-a-sending .ensures tt)));
+      cut-is-smallest = tt;
     }
 
 pub returns : need.returns
@@ -31,5 +31,5 @@ returns c =
     let e = c .cut-up .ensures in
     record {
       answer = ap Ok e ∙ sym (cut-rest k (c .args .number) (c .args .version) m most ∙ cond-false (unsuited (c .args .number) (c .args .version) 1) _ _ (sym (c .if-not-of-a-sending .ensures tt)));
-      cut-is-smallest = subst (λ s. IsCut k m (s .parts)) (sym e) (is-cut k m most)
+      cut-is-smallest = subst (λ s. IsCut k m (s .parts)) (sym e) (is-cut k m most);
     }

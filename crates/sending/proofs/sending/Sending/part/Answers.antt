@@ -19,6 +19,6 @@ returns c =
     let e = c .start-from .ensures in
     record {
       answer = (λ j. Some (take (getD (s .places) i 0 - e j) (drop (e j) (s .bytes))))
-        ∙ ap Some (part-there s i (c .if-i-self .left))
-        ∙ part-some (sent s) i (omega (arith, long s, c .if-i-self .left))
+          ∙ ap Some (part-there s i (c .if-i-self .left))
+          ∙ part-some (sent s) i (omega (arith, long s, c .if-i-self .left));
     }

@@ -18,7 +18,7 @@ pub returns-then-at-out : need.returns-then-at-out
 returns-then-at-out c =
     let s = sent (c .args .self .now) in
     let short : length (c .args .out .now) < c .args .at + size s (c .args .i) =
-        elim (c .then-at-out .came) [ then-at-out·by·then-at-out w ↦ omega (arith, w .if-at-out .taken) | then-at-out·by·else-at-out·then-out-at w ↦ omega (arith, w .if-at-out .left, w .if-out-at .taken, c .size-size .ensures .size) ] in
+    elim (c .then-at-out .came) [ then-at-out·by·then-at-out w ↦ omega (arith, w .if-at-out .taken) | then-at-out·by·else-at-out·then-out-at w ↦ omega (arith, w .if-at-out .left, w .if-out-at .taken, c .size-size .ensures .size) ] in
     let r = write-short s (c .args .i) (c .args .at) (c .args .out .now) short in
     record { answer = r .0; out = r .1 }
 
@@ -42,7 +42,7 @@ write-requires c κs =
       version = omega (arith, n, ap (λ b. b .version) (w .1));
       part = omega (arith, n, w .0, ap (λ b. b .part) (w .1));
       last = omega (arith, n, ap (λ b. b .last) (w .1));
-      room = omega (arith, c .if-at-out .left, c .if-out-at .left, c .size-size .ensures .size, size-is s i, ap (λ b. length (block-bytes b)) (w .1))
+      room = omega (arith, c .if-at-out .left, c .if-out-at .left, c .size-size .ensures .size, size-is s i, ap (λ b. length (block-bytes b)) (w .1));
     }
 
 pub returns : need.returns

@@ -21,5 +21,5 @@ returns c =
       entries-lie-in-line = subst (λ (es : List Item). InLine p 2 es) (sym e) (in-line p 0 2 (drop 2 p) refl);
       entries-lie-apart = subst (λ (es : List Item). Apart p es) (sym e) (apart p 0 2 (drop 2 p) refl);
       entries-are-few = subst (λ (es : List Item). Few p es) (sym e) (few p);
-      blocks-are-right = subst (λ (es : List Item). Every (Right p) es) (sym e) (all-right p 0 2 (drop 2 p) refl)
+      blocks-are-right = subst (λ (es : List Item). Every (Right p) es) (sym e) (all-right p 0 2 (drop 2 p) refl);
     }
