@@ -5,6 +5,7 @@ use sending::Sending;
 use walk::Entry;
 use walk::Walk;
 use walk::WalkIterator;
+use wire::write_block;
 
 // What a walk over a payload gives: how many blocks are read, how many faults, and of the last fault its cause and place.
 #[derive(Drop)]
@@ -70,7 +71,7 @@ pub fn length_of(sending: &Sending, i: usize) -> usize {
 pub fn eight_times(sending: &Sending, payload: &mut [u8]) -> usize {
     let mut at = 2;
     for _k in 0..8u32 {
-        at = match sending.write_block(0, payload, at) {
+        at = match write_block(sending, 0, payload, at) {
             Ok(end) => end,
             Err(_) => return 0,
         };
@@ -121,7 +122,7 @@ mod tests {
     fn byte_of_version_and_parts() -> Result<(), Fail> {
         let sending = Sending::of_parts(7, 15, &[b"abc", b"de", b""])?;
         let mut out = [0; 9];
-        check_eq(sending.write_block(1, &mut out, 0)?, 9)?;
+        check_eq(write_block(&sending, 1, &mut out, 0)?, 9)?;
         check_eq(out[0], 7)?;
         check_eq(out[1], 7)?;
         check_eq(out[2], 0xF6)

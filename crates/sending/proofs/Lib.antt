@@ -4,5 +4,3 @@ pub mod Rules
 pub mod Pieces
 pub mod Kept
 pub mod Wants
-pub mod Wires
-pub mod Writings

@@ -17,7 +17,7 @@ use Rattle.std.proofs.shelf.Tests.{cond-true, cond-false, lt-ltb, le-ltb, eq-eq
 use Rattle.std.proofs.shelf.Ways.{tells}
 use Rattle.crc.specs.Crc.{crc}
 use Rattle.sending.specs.Sendings.{Sending, Block, block, message}
-use Rattle.sending.specs.Writing.{wanted, wanted-part}
+use Rattle.sending.specs.Wanted.{wanted, wanted-part}
 
 pub part-none : (s : Sending) (i : ℕ) → length (s .parts) ≤ i → None ≡ wanted-part s i
 unfolding wanted-part

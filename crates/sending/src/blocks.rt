@@ -2,7 +2,7 @@
 ghost use mathlib.Core.Path.{_≡_};
 ghost use Rattle.sending.specs.Sendings.{block};
 ghost use Rattle.sending.specs.Model.{sent, shown};
-ghost use Rattle.sending.specs.Writing.{wanted};
+ghost use Rattle.sending.specs.Wanted.{wanted};
 use super::block::Block;
 use super::sending::Sending;
 use crc::crc32;

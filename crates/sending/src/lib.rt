@@ -1,5 +1,5 @@
-// Sendings: a message in one to four parts, made by cutting a message or from given parts, and the bytes of its blocks.
-// This crate knows nothing of payloads, frames or lines, and allocates nothing.
+// Sendings: a message in one to four parts, made by cutting a message or from given parts, and the blocks of it as values.
+// This crate knows nothing of how a block is written or read, or of payloads, and allocates nothing.
 mod block;
 mod blocks;
 mod cut;
@@ -9,8 +9,9 @@ mod reads;
 mod room;
 mod sending;
 mod store;
-mod write;
 
 pub use block::Block;
+pub use limits::BESIDE_BODY;
+pub use limits::WORD;
 pub use room::Room;
 pub use sending::Sending;

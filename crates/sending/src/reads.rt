@@ -5,7 +5,7 @@ ghost use Prim.Native.Nat.{_<_};
 ghost use lib.ListN.{length, getD};
 ghost use Rattle.sending.specs.Sendings.{message};
 ghost use Rattle.sending.specs.Model.{sent, part-shown};
-ghost use Rattle.sending.specs.Writing.{wanted-part};
+ghost use Rattle.sending.specs.Wanted.{wanted-part};
 use super::sending::Sending;
 
 impl Sending {

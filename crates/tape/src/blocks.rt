@@ -6,6 +6,7 @@ use std::error::AnyError;
 use walk::Entry;
 use walk::Walk;
 use walk::WalkIterator;
+use wire::write_block;
 
 const MESSAGE: &[u8] = b"reference tape 42, spot 17, side A ...";
 
@@ -62,7 +63,7 @@ fn show_blocks(rt: &LibcRuntime, sending: &Sending, payload: &mut [u8]) -> Resul
         if usize::from(i) >= sending.parts() {
             return Ok(());
         }
-        let end = match sending.write_block(i, payload, at) {
+        let end = match write_block(sending, i, payload, at) {
             Ok(end) => end,
             Err(refusal) => return refused(rt, refusal),
         };

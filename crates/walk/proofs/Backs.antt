@@ -17,7 +17,7 @@ use native.Mathlib.Nat.{mod-eq-of-lt}
 use Rattle.crc.specs.Crc.{crc}
 use Rattle.crc.proofs.Bounds.{crc-below}
 use Rattle.sending.specs.Sendings.{Sending, Block, IsSending, block, message, last-part}
-use Rattle.sending.specs.Wire.{word-bytes, check-bytes, count, head, covered, block-bytes}
+use Rattle.wire.specs.Wire.{word-bytes, check-bytes, count, head, covered, block-bytes}
 use Rattle.sending.proofs.Rules.{numbers}
 use Rattle.walk.specs.Fields.{word, count-of, part-of, last-of, has-check, cause-at, block-at}
 use Rattle.walk.specs.Entries.{Item, read, scan, entries, blocks-read}

@@ -13,8 +13,8 @@ use Rattle.std.proofs.shelf.Ways.{tells}
 use Rattle.std.proofs.shelf.Tests.{cond-both, eqb-true}
 use Rattle.std.proofs.shelf.Lists.{drop-drop, getD-drop}
 use Rattle.crc.specs.Crc.{crc}
-use Rattle.sending.specs.Wire.{check-bytes, block-bytes}
-use Rattle.sending.proofs.Wires.{length-block}
+use Rattle.wire.specs.Wire.{check-bytes, block-bytes}
+use Rattle.wire.proofs.Wires.{length-block}
 use Rattle.walk.specs.Fields.{word, count-of, has-check, cause-at, block-at}
 use Rattle.walk.specs.Entries.{Item, read, fault, item-at, finishes, scan, entries, blocks-read}
 use Rattle.walk.specs.Laws.{place-of, end-of, InLine, Apart, Few, Right}

@@ -7,7 +7,7 @@ use Rattle.std.specs.Joined.{joined}
 use Rattle.std.specs.Vec.{Every}
 use Rattle.crc.specs.Crc.{crc}
 use Rattle.sending.specs.Sendings.{Sending, Block, IsBlockOf}
-use Rattle.sending.specs.Wire.{block-bytes}
+use Rattle.wire.specs.Wire.{block-bytes}
 use Rattle.walk.specs.Fields.{word}
 use Rattle.walk.specs.Entries.{Item, read, fault, entries, blocks-read}
 

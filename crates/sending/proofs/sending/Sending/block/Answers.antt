@@ -7,7 +7,7 @@ use Rattle.std.specs.declared.option.Option.{Option}
 use Rattle.std.specs.declared.option.Option.the-variants.{Some, None}
 use Rattle.std.specs.declared.result.Result.the-variants.{Ok, Err}
 use Rattle.sending.specs.Model.{sent}
-use Rattle.sending.specs.Writing.{wanted-part}
+use Rattle.sending.specs.Wanted.{wanted-part}
 use Rattle.sending.proofs.Kept.{some, long}
 use Rattle.sending.proofs.Wants.{block-none, block-some}
 use Rattle.sending.proofs.sending.Sending.block.Needs as need
