@@ -1,90 +1,89 @@
 // Examples of blocks, sendings and walks, each computed by the code and compared with bytes and lengths from outside.
 // Nothing here is used by other crates.
-use crc::crc32;
-use sending::Sending;
-use walk::Entry;
-use walk::Walk;
-use walk::WalkIterator;
-use wire::write_block;
-
-// What a walk over a payload gives: how many blocks are read, how many faults, and of the last fault its cause and place.
-#[derive(Drop)]
-pub struct Seen {
-    pub blocks: usize,
-    pub faults: usize,
-    pub cause: u8,
-    pub place: usize,
-}
-
-pub fn walk_over(payload: &[u8]) -> Seen {
-    let mut all = Seen {
-        blocks: 0,
-        faults: 0,
-        cause: 0,
-        place: 0,
-    };
-    for entry in Walk::new(payload) {
-        match entry {
-            Entry::Block { .. } => all.blocks = all.blocks.wrapping_add(1),
-            Entry::Fault { place, cause, .. } => {
-                all.faults = all.faults.wrapping_add(1);
-                all.cause = cause.number();
-                all.place = place;
-            }
-        }
-    }
-    all
-}
-
-// A block without body, with any byte of version and parts, and a right CRC_32.
-pub fn bare_block(number: u8, byte: u8) -> [u8; 7] {
-    let word = crc32(&[number, 5, byte]).to_be_bytes();
-    [number, 5, byte, word[0], word[1], word[2], word[3]]
-}
-
-// Puts a block of seven bytes at a place, if there is room.
-fn put(payload: &mut [u8; 18], at: usize, block: &[u8; 7]) {
-    if at <= 11 {
-        payload[at..at + 7].copy_from_slice(block);
-    }
-}
-
-// EB 52, two blocks of seven bytes, and two zeros.
-pub fn two_blocks(first: &[u8; 7], second: &[u8; 7]) -> [u8; 18] {
-    let mut payload = [0; 18];
-    payload[0] = 0xEB;
-    payload[1] = 0x52;
-    put(&mut payload, 2, first);
-    put(&mut payload, 9, second);
-    payload
-}
-
-// How long part i is; 255 where there is none.
-pub fn length_of(sending: &Sending, i: usize) -> usize {
-    match sending.part(i) {
-        Some(part) => part.len(),
-        None => 255,
-    }
-}
-
-// Writes the first block of a sending eight times, from place 2 on, and answers where the last one ends; 0 where one is refused.
-pub fn eight_times(sending: &Sending, payload: &mut [u8]) -> usize {
-    let mut at = 2;
-    for _k in 0..8u32 {
-        at = match write_block(sending, 0, payload, at) {
-            Ok(end) => end,
-            Err(_) => return 0,
-        };
-    }
-    at
-}
 
 #[cfg(test)]
 mod tests {
-    use super::*;
+    use crc::crc32;
     use refusal::RefusalDebug;
     use sending::Room;
+    use sending::Sending;
     use std::test::*;
+    use walk::Entry;
+    use walk::Walk;
+    use walk::WalkIterator;
+    use wire::write_block;
+
+    // What a walk over a payload gives: how many blocks are read, how many faults, and of the last fault its cause and place.
+    #[derive(Drop)]
+    struct Seen {
+        blocks: usize,
+        faults: usize,
+        cause: u8,
+        place: usize,
+    }
+
+    fn walk_over(payload: &[u8]) -> Seen {
+        let mut all = Seen {
+            blocks: 0,
+            faults: 0,
+            cause: 0,
+            place: 0,
+        };
+        for entry in Walk::new(payload) {
+            match entry {
+                Entry::Block { .. } => all.blocks = all.blocks.wrapping_add(1),
+                Entry::Fault { place, cause, .. } => {
+                    all.faults = all.faults.wrapping_add(1);
+                    all.cause = cause.number();
+                    all.place = place;
+                }
+            }
+        }
+        all
+    }
+
+    // A block without body, with any byte of version and parts, and a right CRC_32.
+    fn bare_block(number: u8, byte: u8) -> [u8; 7] {
+        let word = crc32(&[number, 5, byte]).to_be_bytes();
+        [number, 5, byte, word[0], word[1], word[2], word[3]]
+    }
+
+    // Puts a block of seven bytes at a place, if there is room.
+    fn put(payload: &mut [u8; 18], at: usize, block: &[u8; 7]) {
+        if at <= 11 {
+            payload[at..at + 7].copy_from_slice(block);
+        }
+    }
+
+    // EB 52, two blocks of seven bytes, and two zeros.
+    fn two_blocks(first: &[u8; 7], second: &[u8; 7]) -> [u8; 18] {
+        let mut payload = [0; 18];
+        payload[0] = 0xEB;
+        payload[1] = 0x52;
+        put(&mut payload, 2, first);
+        put(&mut payload, 9, second);
+        payload
+    }
+
+    // How long part i is; 255 where there is none.
+    fn length_of(sending: &Sending, i: usize) -> usize {
+        match sending.part(i) {
+            Some(part) => part.len(),
+            None => 255,
+        }
+    }
+
+    // Writes the first block of a sending eight times, from place 2 on, and answers where the last one ends; 0 where one is refused.
+    fn eight_times(sending: &Sending, payload: &mut [u8]) -> usize {
+        let mut at = 2;
+        for _k in 0..8u32 {
+            at = match write_block(sending, 0, payload, at) {
+                Ok(end) => end,
+                Err(_) => return 0,
+            };
+        }
+        at
+    }
 
     #[test]
     fn crc_of_nine_digits() -> Result<(), Fail> {
