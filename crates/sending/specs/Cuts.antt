@@ -20,7 +20,7 @@ abbrev pub room-bytes : Room → ℕ
 room-bytes OneX = 28
 room-bytes TwoX = 58
 
--- m bytes go into n parts where each but the last takes c - 7 and the last, with the message CRC, c - 11
+-- how many bytes of a message go into n parts: c - 7 into each but the last, c - 11 into the last, which has the message CRC
 abbrev pub capacity : ℕ → ℕ → ℕ
 capacity c n = (n - 1) * (c - 7) + (c - 11)
 

@@ -5,6 +5,8 @@ ghost use lib.ListN.{length, getD};
 ghost use mathlib.Core.Path.{_≡_};
 ghost use Rattle.sending.specs.Sendings.{IsSending};
 ghost use Rattle.sending.specs.Storage.{stored};
+use super::limits::MESSAGE_MOST;
+use super::limits::PARTS_MOST;
 
 // A message in one to four parts. Every one that exists keeps the rule `IsSending`.
 #[derive(Drop)]
@@ -14,9 +16,9 @@ pub struct Sending {
     // how many parts there are
     pub(crate) count: usize,
     // where in the message each part ends
-    pub(crate) places: [usize; 4],
+    pub(crate) places: [usize; PARTS_MOST],
     // the message, and zeros
-    pub(crate) bytes: [u8; 200],
+    pub(crate) bytes: [u8; MESSAGE_MOST],
     ghost few: { count ≤ 4 },
     ghost four: { length places ≡ 4 },
     ghost rising: { ((k : ℕ) → k < count → getD (0 ∷ places) k 0 ≤ getD places k 0) },

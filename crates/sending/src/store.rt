@@ -5,9 +5,11 @@ ghost use lib.ListN.{length, getD, take};
 ghost use Rattle.bytes.specs.Laid.{laid};
 ghost use Rattle.sending.specs.Given.{texts};
 ghost use Rattle.sending.specs.Storage.{joint, ends, Plain};
+use super::limits::MESSAGE_MOST;
+use super::limits::PARTS_MOST;
 
 // Copies a part to a place, byte by byte, and answers where it ends.
-fn lay_part(bytes: &mut [u8; 200], at: usize, part: &[u8]) -> usize
+fn lay_part(bytes: &mut [u8; MESSAGE_MOST], at: usize, part: &[u8]) -> usize
     requires { ⌜ at + length (now part) ≤ 200 ⌝ }
     ensures bytes { λ _. ⌜ now (bytes .exit) ≡ laid (now (bytes .entry)) at (now (part .entry)) ⌝ }
     ensures end { λ r. ⌜ r ≡ at + length (now (part .entry)) ⌝ }
@@ -24,8 +26,8 @@ fn lay_part(bytes: &mut [u8; 200], at: usize, part: &[u8]) -> usize
 // Parts in memory, one behind the other, and where each ends.
 #[derive(Drop)]
 pub(crate) struct Store {
-    pub(crate) places: [usize; 4],
-    pub(crate) bytes: [u8; 200],
+    pub(crate) places: [usize; PARTS_MOST],
+    pub(crate) bytes: [u8; MESSAGE_MOST],
 }
 
 // Lays the parts one behind the other.
@@ -37,8 +39,8 @@ pub(crate) fn lay_parts(parts: &[&[u8]]) -> Store
     ensures bytes { λ r. ⌜ take (length (joint (texts (now (parts .entry))))) (r .bytes) ≡ joint (texts (now (parts .entry))) ⌝ }
     ensures plain { λ _. ⌜ Plain (texts (now (parts .entry))) ⌝ }
 {
-    let mut places = [0; 4];
-    let mut bytes = [0; 200];
+    let mut places = [0; PARTS_MOST];
+    let mut bytes = [0; MESSAGE_MOST];
     let mut at = 0;
     for (i, part) in parts.iter().enumerate() {
         at = lay_part(&mut bytes, at, part);

@@ -12,7 +12,11 @@ use super::entry::Cause;
 use super::entry::Entry;
 use super::walk::Walk;
 use crc::crc32;
+use sending::BEFORE_BODY;
 use sending::Block;
+use sending::PART_WEIGHT;
+use sending::UNCOUNTED;
+use sending::VERSION_WEIGHT;
 
 // Where the first block of a payload begins.
 const FIRST: usize = 2;
@@ -20,6 +24,11 @@ const FIRST: usize = 2;
 const COUNT_LEAST: usize = 5;
 // The least count of a block that has the message CRC.
 const COUNT_LEAST_CHECK: usize = 9;
+
+// CRC_32 begins this many bytes below the count, which leaves the first two bytes of a block out,
+const CRC_BELOW: usize = 2;
+// and the message CRC this many.
+const CHECK_BELOW: usize = 6;
 
 impl Cause {
     // The number by which the cause is known outside.
@@ -48,19 +57,19 @@ fn cause_of(rest: &[u8]) -> Option<Cause>
     ensures { λ r. ⌜ cause-told r ≡ cause-at (now (rest .entry)) ⌝ }
 {
     let size = rest.len();
-    if size < 2 {
+    if size < UNCOUNTED {
         return Some(Cause::Torn);
     }
     let count = rest[1] as usize;
-    if count < COUNT_LEAST || size < count + 2 {
+    if count < COUNT_LEAST || size < count + UNCOUNTED {
         return Some(Cause::Torn);
     }
-    let end = count - 2;
+    let end = count - CRC_BELOW;
     if crc32(&rest[0..end]) != word_at(rest, end) {
         return Some(Cause::Crc);
     }
-    let part = rest[2] / 4 % 4;
-    let last = rest[2] % 4;
+    let part = rest[2] / PART_WEIGHT % PART_WEIGHT;
+    let last = rest[2] % PART_WEIGHT;
     if part > last {
         return Some(Cause::Part);
     }
@@ -77,13 +86,13 @@ fn block_of(rest: &[u8]) -> Block<'_>
     ensures { λ r. ⌜ means r ≡ block-at (now (rest .entry)) ⌝ }
 {
     let count = rest[1] as usize;
-    let part = rest[2] / 4 % 4;
-    let last = rest[2] % 4;
+    let part = rest[2] / PART_WEIGHT % PART_WEIGHT;
+    let last = rest[2] % PART_WEIGHT;
     let number = rest[0];
-    let version = rest[2] / 16;
+    let version = rest[2] / VERSION_WEIGHT;
     if part == last && last != 0 {
-        let body = &rest[3..count - 6];
-        let check = Some(word_at(rest, count - 6));
+        let body = &rest[BEFORE_BODY..count - CHECK_BELOW];
+        let check = Some(word_at(rest, count - CHECK_BELOW));
         return Block {
             number,
             version,
@@ -93,7 +102,7 @@ fn block_of(rest: &[u8]) -> Block<'_>
             check,
         };
     }
-    let body = &rest[3..count - 2];
+    let body = &rest[BEFORE_BODY..count - CRC_BELOW];
     Block {
         number,
         version,
@@ -124,7 +133,7 @@ fn past_fault(cause: Cause, rest: &[u8]) -> usize
     if ends_line(cause) {
         return rest.len();
     }
-    2 + rest[1] as usize
+    UNCOUNTED + rest[1] as usize
 }
 
 // The entry with which these bytes, at a place of their payload, begin, and how many bytes it takes.
@@ -141,7 +150,7 @@ fn entry_at<'a>(rest: &'a [u8], place: usize) -> Option<(Entry<'a>, usize)>
                 place,
                 block: block_of(rest),
             },
-            2 + rest[1] as usize,
+            UNCOUNTED + rest[1] as usize,
         )),
         Some(cause) => {
             let past = past_fault(cause, rest);

@@ -10,7 +10,10 @@ use crc::crc32;
 use refusal::Refusal;
 use sending::BESIDE_BODY;
 use sending::Block;
+use sending::PART_WEIGHT;
 use sending::Sending;
+use sending::UNCOUNTED;
+use sending::VERSION_WEIGHT;
 use sending::WORD;
 
 // Writes some bytes at a place, and answers where they end.
@@ -58,11 +61,11 @@ fn opening_of(block: &Block) -> [u8; 3]
     requires last { ⌜ now block .last < 4 ⌝ }
     ensures { λ r. ⌜ r ≡ head (means (now (block .entry))) ⌝ }
 {
-    let follows = (length_of(block) - 2) as u8;
+    let follows = (length_of(block) - UNCOUNTED) as u8;
     [
         block.number,
         follows,
-        block.version * 16 + block.part * 4 + block.last,
+        block.version * VERSION_WEIGHT + block.part * PART_WEIGHT + block.last,
     ]
 }
 

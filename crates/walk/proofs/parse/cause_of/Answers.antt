@@ -3,9 +3,9 @@ use Rattle.std.proofs.shelf.Ways.{tells}
 use Rattle.walk.specs.Fields.{cause-at}
 use Rattle.walk.proofs.parse.cause_of.Needs as need
 
-pub returns-then-size-lt2 : need.returns-then-size-lt2
+pub returns-then-size-lt-UNCOUNTED : need.returns-then-size-lt-UNCOUNTED
 unfolding cause-at
-returns-then-size-lt2 c = grind (arith, tells)
+returns-then-size-lt-UNCOUNTED c = grind (arith, tells)
 
 pub returns-then-count-lt-COUNT-LEAST : need.returns-then-count-lt-COUNT-LEAST
 unfolding cause-at
