@@ -1,2 +1,6 @@
 pub mod Parts
 pub mod Tests
+pub mod Spelling
+pub mod Leasts
+pub mod Digits
+pub mod Rounds
