@@ -4,3 +4,4 @@ pub mod Spelling
 pub mod Leasts
 pub mod Digits
 pub mod Rounds
+pub mod Accepts
