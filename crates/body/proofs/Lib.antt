@@ -5,3 +5,4 @@ pub mod Leasts
 pub mod Digits
 pub mod Rounds
 pub mod Accepts
+pub mod Laws
