@@ -67,7 +67,7 @@ pub trait Kind<'a>: Format {
 // reserved bits; otherwise it is refused at the smallest place at which it is wrong.
 pub fn read_body<'a, K: Kind<'a>>(body: &'a [u8]) -> Result<K::Message, Refusal>
     ensures answer { λ r. ⌜ told (K·Kind .said) r ≡ reading (K·Format .fault) (K·Format .says) (now (body .entry)) ⌝ }
-    ensures accepts { λ r. ⌜ (Bytes (now (body .entry)) → Accepts (λ m. Writing (K·Format .wrong) (K·Format .bytes) m (now (body .entry))) (told (K·Kind .said) r)) ⌝ }
+    ensures accepts { λ r. ⌜ Accepts (λ m. Writing (K·Format .wrong) (K·Format .bytes) m (now (body .entry))) (told (K·Kind .said) r) ⌝ }
     ensures refuses { λ r. ⌜ Refuses-first (K·Format .faulty (now (body .entry))) (told (K·Kind .said) r) ⌝ }
 {
     K::read(body)
