@@ -30,3 +30,14 @@ pub const AD_ID_LEAST: usize = 11;
 pub const AD_ID_MOST: usize = 12;
 // The longest identifier that a length byte can tell.
 pub const ID_MOST: usize = 255;
+// The largest type of identifier, of six bits, and the largest channel number, of ten.
+pub const TYPE_MOST: u8 = 63;
+pub const CHANNEL_NUMBER_MOST: u16 = 1023;
+// From a channel's first byte to those that hold the first bits of its major and minor number.
+pub const MAJOR_OFFSET: usize = 2;
+pub const MINOR_OFFSET: usize = 3;
+// Reserved bits are written as ones: after the two flags, before the valid-until flag, before milliseconds, before major.
+pub const FLAGS_ONES: u8 = 63;
+pub const CONTENT_ONES: u8 = 128;
+pub const TIME_ONES: u16 = 252;
+pub const CHANNEL_ONES: u16 = 240;
