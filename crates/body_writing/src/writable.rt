@@ -1,0 +1,48 @@
+// Kinds that are written too, and the one call that writes a message and reads it back.
+ghost use Prim.Native.Nat.{ℕ};
+ghost use mathlib.Core.Path.{_≡_};
+ghost use lib.ListN.{take};
+ghost use Rattle.std.specs.Vec.{made};
+ghost use Rattle.std.specs.declared.option.Option.the-variants.{None};
+ghost use Rattle.std.specs.declared.result.Result.the-variants.{Ok};
+ghost use Rattle.bytes.specs.Places.{Smallest};
+ghost use Rattle.body.specs.Format.{ones};
+ghost use Rattle.body.specs.Messages.{Said};
+ghost use Rattle.body.specs.Reading.{reading};
+ghost use Rattle.body_writing.specs.Outputs.{write-answer, output-after};
+use body::Format;
+use body::Kind;
+use refusal::Refusal;
+
+// A format that is written too.
+pub trait WritableFormat: Format {
+    // in words: a value of a message, at its place, that no body can have there
+    ghost unfit: { Said → ℕ → Type 0 };
+
+    // a message is refused at its smallest wrong place
+    law smallest: { (m : Said) → Smallest (unfit m) (Self·Format .wrong m) };
+
+    // what is written without a wrong value is read back as the same message
+    law back: { (m : Said) → Self·Format .wrong m ≡ None → Ok m ≡ reading (Self·Format .fault) (Self·Format .says) (Self·Format .bytes ones m) };
+}
+
+// A kind that is written too.
+pub trait WritableKind<'a>: Kind<'a> + WritableFormat {
+    // Writes a message into an output, and answers the body's length. The bytes past it stay.
+    fn write(message: &Self::Message, out: &mut [u8]) -> Result<usize, Refusal>
+        ensures answer { λ r. ⌜ r ≡ write-answer (Self·Format .wrong (Self·Kind .said (now (message .entry)))) (Self·Format .bytes ones (Self·Kind .said (now (message .entry)))) (now (out .entry)) ⌝ }
+        ensures output { λ _. ⌜ now (out .exit) ≡ output-after (Self·Format .wrong (Self·Kind .said (now (message .entry)))) (Self·Format .bytes ones (Self·Kind .said (now (message .entry)))) (now (out .entry)) ⌝ };
+}
+
+// Writes a message of any written kind, reads it back, and answers the body's length. A refused message leaves the output
+// as it was; it is refused for an output too short, or else at the smallest place of a wrong value.
+pub fn write_body<'a, K: WritableKind<'a>>(message: &K::Message, out: &mut [u8]) -> Result<usize, Refusal>
+    ensures answer { λ r. ⌜ r ≡ write-answer (K·Format .wrong (K·Kind .said (now (message .entry)))) (K·Format .bytes ones (K·Kind .said (now (message .entry)))) (now (out .entry)) ⌝ }
+    ensures output { λ _. ⌜ now (out .exit) ≡ output-after (K·Format .wrong (K·Kind .said (now (message .entry)))) (K·Format .bytes ones (K·Kind .said (now (message .entry)))) (now (out .entry)) ⌝ }
+    ensures back { λ r. ⌜ made r (λ n. reading (K·Format .fault) (K·Format .says) (take n (now (out .exit))) ≡ Ok (K·Kind .said (now (message .entry)))) ⌝ }
+    ensures smallest { λ _. ⌜ Smallest (K·WritableFormat .unfit (K·Kind .said (now (message .entry)))) (K·Format .wrong (K·Kind .said (now (message .entry)))) ⌝ }
+{
+    let n = K::write(message, out)?;
+    K::check(&out[0..n])?;
+    Ok(n)
+}
