@@ -146,16 +146,19 @@ module _ (b : List ℕ) (bs : Bytes b) where
         let size : length (id-of b) ≡ size-of b = length-take-le (size-of b) (drop (id-at b) b) (omega arith) in
         let ids : drop (id-at b) b ≡ id-of b ++ drop (id-at b + size-of b) b = sym (take-append-drop (size-of b) (drop (id-at b) b)) ∙ ap (λ t. id-of b ++ t) (drop-drop (size-of b) (id-at b) b) in
         let ty : getD b 1 0 ≡ getD b 1 0 / 128 * 128 + flag 64 (until-of b) + type-of b = type-byte (getD b 1 0) (has-until b) refl (time-at 3 b) in
-        let us = until-bytes (getD b 7 0 / 4) (until-of b) in
-        (next b 1 2 (omega arith) refl
-        ∙ (ap (λ x. getD b 1 0 ∷ x) (next b 2 3 (omega arith) refl)
-        ∙ ((λ n. ty n ∷ sym size n ∷ (w .0 ∙ (ap (λ x. us ++ x) ids ∙ sym (append-assoc us (id-of b) (drop (id-at b + size-of b) b)))) n)
-        )),
-        (skip _ _ (passes _ 1 (le-ltb _ _ (omega arith)))
-        ∙ (skip _ _ (passes _ 2 (not-from-true _ (ap (length-fits (type-of b)) size ∙ fit)))
-        ∙ (skip (until-wrong (until-of b)) _ (w .1 .0)
-        ∙ skip _ None (ap (shifted _) spelt))),
-        long))
+        let us = until-bytes (getD b 7 0 / 4) (until-of b) in (
+          next b 1 2 (omega arith) refl
+              ∙ (ap (λ x. getD b 1 0 ∷ x) (next b 2 3 (omega arith) refl)
+              ∙ ((λ n. ty n ∷ sym size n ∷ (w .0 ∙ (ap (λ x. us ++ x) ids ∙ sym (append-assoc us (id-of b) (drop (id-at b + size-of b) b)))) n)
+              )),
+          (
+            skip _ _ (passes _ 1 (le-ltb _ _ (omega arith)))
+                ∙ (skip _ _ (passes _ 2 (not-from-true _ (ap (length-fits (type-of b)) size ∙ fit)))
+                ∙ (skip (until-wrong (until-of b)) _ (w .1 .0)
+                ∙ skip _ None (ap (shifted _) spelt))),
+            long,
+          ),
+        )
 
     part-written : (t : Bool) → 1 ≤ length b → part t (content-fault ok b) ≡ None
         → (drop 1 b ≡ content-bytes reserved-in (present t (content-of b)) ++ drop (cond t (id-at b + size-of b) 1) b) × ((content-wrong ok (present t (content-of b)) ≡ None) × (cond t (id-at b + size-of b) 1 ≤ length b))
@@ -193,10 +196,10 @@ content-id-written ok b bs e =
     let cs = content-bytes (reserved-in b bs) content in
     let fl : getD b 0 0 ≡ flags-byte (getD b 0 0 % 64) content channel = flags-back (getD b 0 0) (has-content b) (has-channel b) refl refl (bs 0) (content-of b) (channel-of (channel-at b) b) in
     record {
-        right = skip (neither content channel) _ (some-part (getD b 0 0) (has-content b) (has-channel b) refl refl x (content-of b) (channel-of (channel-at b) b)) ∙ (skip (content-wrong ok content) _ (c .1 .0) ∙ skip (channel-wrong _ channel) None (h .1 _));
-        reserved = reserved-in b bs;
-        fitting = fitting-in b bs;
-        written = next b 0 1 (omega arith) refl ∙ (λ i. fl i ∷ (c .0 ∙ ap (λ t. cs ++ t) (h .0)) i)
+      right = skip (neither content channel) _ (some-part (getD b 0 0) (has-content b) (has-channel b) refl refl x (content-of b) (channel-of (channel-at b) b)) ∙ (skip (content-wrong ok content) _ (c .1 .0) ∙ skip (channel-wrong _ channel) None (h .1 _));
+      reserved = reserved-in b bs;
+      fitting = fitting-in b bs;
+      written = next b 0 1 (omega arith) refl ∙ (λ i. fl i ∷ (c .0 ∙ ap (λ t. cs ++ t) (h .0)) i);
     }
 
 pub presentation-written : (b : List ℕ) → Bytes b → presentation-fault b ≡ None → Writing presentation-wrong presentation-bytes (presentation-of b) b
@@ -207,8 +210,8 @@ presentation-written b bs e =
     let l : length b ≤ 6 = ltb-false _ _ (not-wrong _ 6 (n .0)) in
     let b4 = bs 4 in
     record {
-        right = t .1;
-        reserved = record { flags = 0; content = 0; time = getD b 4 0 / 4; channel = 0 };
-        fitting = record { flags = omega arith; content = omega arith; time = omega arith; channel = omega arith };
-        written = time-front b bs 0 (t .0) ∙ (ap (λ r. time-bytes (getD b 4 0 / 4) (time-at 0 b) ++ r) (drop-all 6 b l))
+      right = t .1;
+      reserved = record { flags = 0; content = 0; time = getD b 4 0 / 4; channel = 0 };
+      fitting = record { flags = omega arith; content = omega arith; time = omega arith; channel = omega arith };
+      written = time-front b bs 0 (t .0) ∙ (ap (λ r. time-bytes (getD b 4 0 / 4) (time-at 0 b) ++ r) (drop-all 6 b l));
     }

@@ -12,11 +12,11 @@ pub front-part : (b : List ℕ) (p n t : ℕ) → p ≤ length b → (p + n ≤ 
 front-part b p n t h f g =
     ⊎-elim
     (λ (k : length b < p + n).
-        let e : t ≡ length b = g (omega arith) in
-        let l : length (drop p b) ≡ length b - p = length-drop p b in
-        take-all (t - p) (drop p b) (omega arith) ∙ sym (take-all n (drop p b) (omega arith)))
+    let e : t ≡ length b = g (omega arith) in
+    let l : length (drop p b) ≡ length b - p = length-drop p b in
+    take-all (t - p) (drop p b) (omega arith) ∙ sym (take-all n (drop p b) (omega arith)))
     (λ (k : p + n ≤ length b).
-        let e : t ≡ p + n = f k in
-        let d : t - p ≡ n = omega arith in
-        ap (λ m. take m (drop p b)) d)
+    let e : t ≡ p + n = f k in
+    let d : t - p ≡ n = omega arith in
+    ap (λ m. take m (drop p b)) d)
     (cases-lt (length b) (p + n))

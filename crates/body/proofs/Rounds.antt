@@ -45,15 +45,21 @@ channel-stage : (r : ℕ) (b : List ℕ) (h : Option Channel) (p q : ℕ) → ha
     → (part (has-channel b) (channel-fault p b) ≡ None) × ((cond (has-channel b) (p + 5) p ≡ length b) × (present (has-channel b) (channel-of p b) ≡ h))
 channel-stage r b (Some h) p q e l d g =
     let n : length b - p ≡ 5 = sym (length-drop p b) ∙ ap length d in
-    let k = channel-numbers q h g in
-    (part-true (has-channel b) (channel-fault p b) e ∙ passes _ (length b) (le-ltb _ _ (omega arith)),
-    (ap (λ t. cond t (p + 5) p) e ∙ omega arith,
-    present-true _ _ e ∙ ap Some (channel-dropped p b ∙ (ap (channel-of 0) d ∙ channel-back r h (k .0) (k .1)))))
+    let k = channel-numbers q h g in (
+      part-true (has-channel b) (channel-fault p b) e ∙ passes _ (length b) (le-ltb _ _ (omega arith)),
+      (
+        ap (λ t. cond t (p + 5) p) e ∙ omega arith,
+        present-true _ _ e ∙ ap Some (channel-dropped p b ∙ (ap (channel-of 0) d ∙ channel-back r h (k .0) (k .1))),
+      ),
+    )
 channel-stage r b None p q e l d g =
-    let n : length b - p ≡ 0 = sym (length-drop p b) ∙ ap length d in
-    (part-false _ (channel-fault p b) e,
-    (ap (λ t. cond t (p + 5) p) e ∙ omega arith,
-    present-false _ (channel-of p b) e))
+    let n : length b - p ≡ 0 = sym (length-drop p b) ∙ ap length d in (
+      part-false _ (channel-fault p b) e,
+      (
+        ap (λ t. cond t (p + 5) p) e ∙ omega arith,
+        present-false _ (channel-of p b) e,
+      ),
+    )
 
 -- ---- the flags
 flags-channel : (r : ℕ) (c : Option Identified) (h : Option Channel) → r < 64 → leb 64 (flags-byte r c h % 128) ≡ isSome h
@@ -91,11 +97,16 @@ module _ (ok : ℕ → Bool) where
       let long : id-at b + size-of b ≤ length b = omega arith in
       let good : misspelt ok (type-of b) (id-of b) ≡ None = ap (λ x. misspelt ok x (id-of b)) k ∙ (ap (misspelt ok (c .id-type)) ids ∙ chars) in
       let id-good : id-fault ok b ≡ None = skip _ _ (ap (shifted (id-at b)) good) ∙ skip _ None (passes _ (length b) (le-ltb _ _ long)) in
-      let fits : length-fits (type-of b) (size-of b) ≡ true = ap (λ x. length-fits x (size-of b)) k ∙ (ap (length-fits (c .id-type)) s ∙ fit) in
-      (content-fault-at-id ok b l fits u ∙ id-good,
-      (λ i. record { id-type = k i; valid-until = uo i; id = ids i },
-      (sym (drop-drop (size-of b) (id-at b) b) ∙ (ap (λ n. drop n (drop (id-at b) b)) s ∙ (ap (drop (length (c .id))) d ∙ drop-at (c .id) tail (length (c .id)) refl)),
-      long)))
+      let fits : length-fits (type-of b) (size-of b) ≡ true = ap (λ x. length-fits x (size-of b)) k ∙ (ap (length-fits (c .id-type)) s ∙ fit) in (
+        content-fault-at-id ok b l fits u ∙ id-good,
+        (
+          λ i. record { id-type = k i; valid-until = uo i; id = ids i },
+          (
+            sym (drop-drop (size-of b) (id-at b) b) ∙ (ap (λ n. drop n (drop (id-at b) b)) s ∙ (ap (drop (length (c .id))) d ∙ drop-at (c .id) tail (length (c .id)) refl)),
+            long,
+          ),
+        ),
+      )
 
   abbrev Reads : List ℕ → Said → Type 0
   Reads b m = Ok m ≡ reading (content-id-fault ok) content-id-of b

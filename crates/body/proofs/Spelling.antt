@@ -34,12 +34,11 @@ module _ (ok : ℕ → Bool) where
   bad-first i (c ∷ cs) p e =
       ⊎-elim
       (λ (g : ok c ≡ true).
-          let r : (k : ℕ) × FirstBad (i + 1) cs p k = bad-first (i + 1) cs p (sym (cond-true _ _ _ g) ∙ e) in
-          let f : (j : ℕ) → j < suc (r .0) → ok (getD (c ∷ cs) j 0) ≡ true = before c cs (r .0) g (r .1 .1 .1 .1) in
-          (suc (r .0), (omega arith, (omega arith, (r .1 .1 .1 .0, f)))))
+      let r : (k : ℕ) × FirstBad (i + 1) cs p k = bad-first (i + 1) cs p (sym (cond-true _ _ _ g) ∙ e) in
+      let f : (j : ℕ) → j < suc (r .0) → ok (getD (c ∷ cs) j 0) ≡ true = before c cs (r .0) g (r .1 .1 .1 .1) in
+      (suc (r .0), (omega arith, (omega arith, (r .1 .1 .1 .0, f)))))
       (λ (g : ok c ≡ false).
-          let k : wrong-from ok i (c ∷ cs) ≡ Some i = cond-false _ _ _ g in
-          let q : i ≡ p = cc in
-          (0, (omega arith, (omega arith, (g, λ j h. absurd (omega arith))))))
+      let k : wrong-from ok i (c ∷ cs) ≡ Some i = cond-false _ _ _ g in
+      let q : i ≡ p = cc in
+      (0, (omega arith, (omega arith, (g, λ j h. absurd (omega arith))))))
       (cases-bool (ok c))
-

@@ -24,8 +24,8 @@ pub record Accepts (W : Said → Type 0) (r : Result Said Refusal) : Type 0 wher
   pub only : (m : Said) → r ≡ Ok m → W m
   pub every : (m : Said) → W m → r ≡ Ok m
 
--- an answer refuses at the smallest place at which something is wrong, and refuses only where something is
-pub record Refuses-first (W : ℕ → Type 0) (r : Result Said Refusal) : Type 0 where
+-- a body or message is refused at the smallest place at which something is wrong, and accepted only where nothing is
+pub record Refuses-first {A : Type 0} (W : ℕ → Type 0) (r : Result A Refusal) : Type 0 where
   pub wrong-there : (p : ℕ) → r ≡ Err (Body p) → W p
   pub none-below : (p : ℕ) → r ≡ Err (Body p) → (q : ℕ) → W q → p ≤ q
-  pub none-at-all : (m : Said) → r ≡ Ok m → (q : ℕ) → W q → ⊥
+  pub none-at-all : (x : A) → r ≡ Ok x → (q : ℕ) → W q → ⊥

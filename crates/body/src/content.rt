@@ -25,7 +25,11 @@ pub(crate) fn id_place(body: &[u8]) -> usize
     requires { ⌜ 3 ≤ length (now body) ⌝ }
     ensures { λ r. ⌜ r ≡ id-at (now (body .entry)) ⌝ }
 {
-    if body[TYPE_PLACE] % 128 >= UNTIL_FLAG { LATE_ID_PLACE } else { UNTIL_PLACE }
+    if body[TYPE_PLACE] % 128 >= UNTIL_FLAG {
+        LATE_ID_PLACE
+    } else {
+        UNTIL_PLACE
+    }
 }
 
 // Until when the content is valid, where the body says so.
@@ -72,5 +76,9 @@ pub(crate) fn content_in<'a>(body: &'a [u8]) -> Result<Content<'a>, Refusal>
     }
     let valid_until = until_in(body)?;
     let id = id_in(body)?;
-    Ok(Content { id_type, valid_until, id })
+    Ok(Content {
+        id_type,
+        valid_until,
+        id,
+    })
 }

@@ -26,7 +26,10 @@ pub(crate) fn time_at(body: &[u8], at: usize) -> Result<Time, Refusal>
     }
     let high = body[at] as u32 * 256 + body[at + 1] as u32;
     let low = body[at + 2] as u32 * 256 + body[at + 3] as u32;
-    Ok(Time { seconds: high * 65536 + low, milliseconds })
+    Ok(Time {
+        seconds: high * 65536 + low,
+        milliseconds,
+    })
 }
 
 // The channel that begins at a place of a body: after BSID and four bits that are not looked at, ten bits and ten bits.

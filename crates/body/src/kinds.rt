@@ -117,6 +117,7 @@ pub impl Format for PlainBytes as PlainFormat {
     }
 
     fn check(body: &[u8]) -> Result<(), Refusal> {
+        let _bytes = PlainKind::read(body)?;
         Ok(())
     }
 }

@@ -3,6 +3,7 @@ ghost use mathlib.Core.Path.{_≡_};
 ghost use Rattle.body.specs.Kinds.{kind-named, Split};
 
 pub const CONTENT_ID: u8 = 1;
+
 pub const PRESENTATION_TIME: u8 = 2;
 
 // The three kinds.

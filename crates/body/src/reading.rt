@@ -64,7 +64,11 @@ fn end_place(body: &[u8], at: usize) -> usize
     requires near { ⌜ at < 512 ⌝ }
     ensures { λ r. ⌜ r ≡ cond (has-channel (now (body .entry))) (at + 5) at ⌝ }
 {
-    if body[0] % 128 < CHANNEL_FLAG { at } else { at + CHANNEL_SIZE }
+    if body[0] % 128 < CHANNEL_FLAG {
+        at
+    } else {
+        at + CHANNEL_SIZE
+    }
 }
 
 // Reads a content ID body.

@@ -44,8 +44,8 @@ pub time-smallest : (p : ℕ) (t : Time) → Smallest (Time-unfit p t) (time-wro
 time-smallest p t =
     smallest-same _ (Time-unfit p t) (time-wrong p t)
     (smallest-either (Fails (leb (2 ^ 32) (t .seconds)) p) _ _ _ (smallest-wrong _ p)
-        (smallest-either (Fails (ltb 999 (t .milliseconds)) (p + 4)) Never _ _ (smallest-wrong _ (p + 4)) smallest-none (λ x y v w. absurd w))
-        (λ x y v w. elim w [ inl u ↦ omega (arith, v .1, u .1) | inr u ↦ absurd u ]))
+    (smallest-either (Fails (ltb 999 (t .milliseconds)) (p + 4)) Never _ _ (smallest-wrong _ (p + 4)) smallest-none (λ x y v w. absurd w))
+    (λ x y v w. elim w [ inl u ↦ omega (arith, v .1, u .1) | inr u ↦ absurd u ]))
     (into-time p t) (from-time p t)
 
 until-smallest : (u : Option Time) → Smallest (Until-unfit u) (until-wrong u)
@@ -80,11 +80,11 @@ module _ (ok : ℕ → Bool) where
       ⊎-elim
       (λ (n : wrong-from ok 0 cs ≡ None). subst (Smallest (Bad cs)) (sym n) (nowhere (λ q w. apart _ (good-all ok 0 cs n q (w .0)) (w .1))))
       (λ (s : (p : ℕ) × (wrong-from ok 0 cs ≡ Some p)).
-          let r = bad-first ok 0 cs (s .0) (s .1) in
-          let e : s .0 ≡ r .0 = omega (arith, r .1 .0) in
-          let bad : Bad cs (s .0) = subst (Bad cs) (sym e) (r .1 .1 .0, r .1 .1 .1 .0) in
-          subst (Smallest (Bad cs)) (sym (s .1)) (at (s .0) bad
-          (λ q w. ⊎-elim (λ (lt : q < s .0). absurd (apart _ (r .1 .1 .1 .1 q (omega arith)) (w .1))) (λ (ge : s .0 ≤ q). ge) (cases-lt q (s .0)))))
+      let r = bad-first ok 0 cs (s .0) (s .1) in
+      let e : s .0 ≡ r .0 = omega (arith, r .1 .0) in
+      let bad : Bad cs (s .0) = subst (Bad cs) (sym e) (r .1 .1 .0, r .1 .1 .1 .0) in
+      subst (Smallest (Bad cs)) (sym (s .1)) (at (s .0) bad
+      (λ q w. ⊎-elim (λ (lt : q < s .0). absurd (apart _ (r .1 .1 .1 .1 q (omega arith)) (w .1))) (λ (ge : s .0 ≤ q). ge) (cases-lt q (s .0)))))
       (cases-option (wrong-from ok 0 cs))
 
   -- ---- a content
@@ -114,11 +114,11 @@ module _ (ok : ℕ → Bool) where
       let above : 3 ≤ id-place u = place-above u in
       let spelt = smallest-either (Misspelt c) Never _ _ (smallest-shifted _ (id-place u) (misspelt ok (c .id-type) (c .id)) (smallest-part (Bad (c .id)) (eqb (c .id-type) 2) _ (spelling-smallest (c .id)))) smallest-none (λ x y v w. absurd w) in
       let late = smallest-either (Until-unfit u) (λ q. Misspelt c q ⊎ Never q) _ _ (until-smallest u) spelt
-          (λ x y v w. elim w [ inl m ↦ omega (arith, until-below u x v, m .1 .1) | inr z ↦ absurd z ]) in
+      (λ x y v w. elim w [ inl m ↦ omega (arith, until-below u x v, m .1 .1) | inr z ↦ absurd z ]) in
       let long = smallest-either (Fails (not (length-fits (c .id-type) (length (c .id)))) 2) (λ q. Until-unfit u q ⊎ (Misspelt c q ⊎ Never q)) _ _ (smallest-wrong _ 2) late
-          (λ x y v w. elim w [ inl t ↦ omega (arith, until-above u y t, v .1) | inr m ↦ elim m [ inl k ↦ omega (arith, v .1, k .1 .1) | inr z ↦ absurd z ] ]) in
+      (λ x y v w. elim w [ inl t ↦ omega (arith, until-above u y t, v .1) | inr m ↦ elim m [ inl k ↦ omega (arith, v .1, k .1 .1) | inr z ↦ absurd z ] ]) in
       let all = smallest-either (Fails (ltb 63 (c .id-type)) 1) (λ q. Fails (not (length-fits (c .id-type) (length (c .id)))) 2 q ⊎ (Until-unfit u q ⊎ (Misspelt c q ⊎ Never q))) _ _ (smallest-wrong _ 1) long
-          (λ x y v w. elim w [ inl f ↦ omega (arith, v .1, f .1) | inr r ↦ elim r [ inl t ↦ omega (arith, until-above u y t, v .1) | inr m ↦ elim m [ inl k ↦ omega (arith, v .1, k .1 .1) | inr z ↦ absurd z ] ] ]) in
+      (λ x y v w. elim w [ inl f ↦ omega (arith, v .1, f .1) | inr r ↦ elim r [ inl t ↦ omega (arith, until-above u y t, v .1) | inr m ↦ elim m [ inl k ↦ omega (arith, v .1, k .1 .1) | inr z ↦ absurd z ] ] ]) in
       smallest-same (In-content c) (Content-unfit ok c) (content-wrong ok (Some c)) all (into-content c) (from-content c)
 
 -- ---- a channel
@@ -140,9 +140,9 @@ pub channel-smallest : (p : ℕ) (h : Channel) → Smallest (Channel-unfit p h) 
 channel-smallest p h =
     let minor = smallest-either (Fails (ltb 1023 (h .minor)) (p + 3)) Never _ _ (smallest-wrong _ (p + 3)) smallest-none (λ x y v w. absurd w) in
     let major = smallest-either (Fails (ltb 1023 (h .major)) (p + 2)) (λ q. Fails (ltb 1023 (h .minor)) (p + 3) q ⊎ Never q) _ _ (smallest-wrong _ (p + 2)) minor
-        (λ x y v w. elim w [ inl u ↦ omega (arith, v .1, u .1) | inr z ↦ absurd z ]) in
+    (λ x y v w. elim w [ inl u ↦ omega (arith, v .1, u .1) | inr z ↦ absurd z ]) in
     let all = smallest-either (Fails (leb (2 ^ 16) (h .bsid)) p) (λ q. Fails (ltb 1023 (h .major)) (p + 2) q ⊎ (Fails (ltb 1023 (h .minor)) (p + 3) q ⊎ Never q)) _ _ (smallest-wrong _ p) major
-        (λ x y v w. elim w [ inl u ↦ omega (arith, v .1, u .1) | inr m ↦ elim m [ inl u ↦ omega (arith, v .1, u .1) | inr z ↦ absurd z ] ]) in
+    (λ x y v w. elim w [ inl u ↦ omega (arith, v .1, u .1) | inr m ↦ elim m [ inl u ↦ omega (arith, v .1, u .1) | inr z ↦ absurd z ] ]) in
     smallest-same (In-channel p h) (Channel-unfit p h) (channel-wrong p (Some h)) all (into-channel p h) (from-channel p h)
 
 channel-above : (p : ℕ) (h : Channel) (q : ℕ) → Channel-unfit p h q → p ≤ q
@@ -155,7 +155,7 @@ until-fits : (u : Option Time) (id : List ℕ) → length (until-bytes 63 u ++ i
 until-fits (Some t) id = simp length-append (omega arith)
 until-fits None id = simp length-append (omega arith)
 
-content-below : (ok : ℕ → Bool) (c : Identified) (q : ℕ) → Content-unfit ok c q → q ≤ 1 + length (content-bytes ones (Some c)) 
+content-below : (ok : ℕ → Bool) (c : Identified) (q : ℕ) → Content-unfit ok c q → q ≤ 1 + length (content-bytes ones (Some c))
 content-below ok c q (type-large h) = omega arith
 content-below ok c q (length-misfit h) = let n = until-fits (c .valid-until) (c .id) in omega arith
 content-below ok c q (until-unfit p w) = let n = until-fits (c .valid-until) (c .id) in omega (arith, until-below (c .valid-until) p w)

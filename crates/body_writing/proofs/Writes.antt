@@ -14,13 +14,15 @@ use Rattle.std.specs.declared.option.Option.the-variants.{Some, None}
 use Rattle.std.specs.declared.result.Result.{Result}
 use Rattle.std.specs.declared.result.Result.the-variants.{Ok, Err}
 use Rattle.refusal.specs.declared.Refusal.{Refusal}
-use Rattle.refusal.specs.declared.Refusal.the-variants.{Body}
+use Rattle.refusal.specs.declared.Refusal.the-variants.{Body, OutputLength}
 use Rattle.bytes.specs.Laid.{laid}
-use Rattle.bytes.specs.Places.{unless, told}
+use Rattle.bytes.specs.Places.{unless, told, Smallest}
 use Rattle.bytes.proofs.Steps.{both-none}
 use Rattle.body.specs.declared.message.Channel.{Channel}
 use Rattle.body.specs.Format.{ones, content-bytes, channel-bytes, content-wrong, channel-wrong, neither, content-id-bytes, content-id-wrong}
 use Rattle.body.specs.Messages.{Identified, content-id}
+use Rattle.body.specs.Laws.{Refuses-first}
+use Rattle.body.proofs.Laws.{refuses-first}
 use Rattle.body_writing.specs.Outputs.{write-answer, output-after, left}
 
 pub message-length : (c : Option Identified) (h : Option Channel) → length (content-id-bytes ones (content-id c h)) ≡ 1 + (length (content-bytes ones c) + length (channel-bytes (ones .channel) h))
@@ -57,3 +59,16 @@ written w body out after n e f = by-room _ w body out after n _ e f
 
 pub never : {A B : Type 0} (f : A → B) (r : Result A Refusal) (m : A) (why : Refusal) → Err why ≡ told f r → r ≡ Ok m → ⊥
 never f r m why e h = let k : told f r ≡ Ok (f m) = ap (told f) h in let z : _≡_ {A = ℕ} 0 1 = cc in absurd (omega arith)
+
+-- where the output has room, a message is refused at its smallest wrong place; where it has none, by the output's length
+by-room-refuses : (t : Bool) (W : ℕ → Type 0) (w : Option ℕ) (n l : ℕ) (r : Result ℕ Refusal) → r ≡ cond t (Err (OutputLength l)) (unless Body w n) → Smallest W w → Refuses-first W r
+by-room-refuses true W w n l r e s =
+    record {
+      wrong-there = λ p h. let z : _≡_ {A = ℕ} 0 1 = cc in absurd (omega arith);
+      none-below = λ p h. let z : _≡_ {A = ℕ} 0 1 = cc in absurd (omega arith);
+      none-at-all = λ x h. let z : _≡_ {A = ℕ} 0 1 = cc in absurd (omega arith);
+    }
+by-room-refuses false W w n l r e s = refuses-first W w n r e s
+
+pub refuses-first-out : (W : ℕ → Type 0) (w : Option ℕ) (body out : List ℕ) (r : Result ℕ Refusal) → r ≡ write-answer w body out → Smallest W w → Refuses-first W r
+refuses-first-out W w body out r e s = by-room-refuses (ltb (length out) (length body)) W w (length body) (length out) r e s

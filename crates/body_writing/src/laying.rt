@@ -28,7 +28,14 @@ pub(crate) fn time_as_bytes(time: Time) -> [u8; 6]
 {
     let s = time.seconds;
     let m = time.milliseconds;
-    [(s / 16777216) as u8, (s / 65536 % 256) as u8, (s / 256 % 256) as u8, (s % 256) as u8, (TIME_ONES + m / 256) as u8, (m % 256) as u8]
+    [
+        (s / 16777216) as u8,
+        (s / 65536 % 256) as u8,
+        (s / 256 % 256) as u8,
+        (s % 256) as u8,
+        (TIME_ONES + m / 256) as u8,
+        (m % 256) as u8,
+    ]
 }
 
 // A channel as bytes: BSID, four ones, major and minor number.
@@ -40,5 +47,11 @@ pub(crate) fn channel_as_bytes(channel: Channel) -> [u8; 5]
     let b = channel.bsid;
     let m = channel.major;
     let n = channel.minor;
-    [(b / 256) as u8, (b % 256) as u8, (CHANNEL_ONES + m / 64) as u8, (m % 64 * 4 + n / 256) as u8, (n % 256) as u8]
+    [
+        (b / 256) as u8,
+        (b % 256) as u8,
+        (CHANNEL_ONES + m / 64) as u8,
+        (m % 64 * 4 + n / 256) as u8,
+        (n % 256) as u8,
+    ]
 }

@@ -6,6 +6,7 @@ mod laying;
 mod values;
 mod writable;
 mod writing;
+
 pub use kinds::ContentIdWritableFormat;
 pub use kinds::ContentIdWritableKind;
 pub use kinds::PresentationWritableFormat;

@@ -31,8 +31,20 @@ fn content_size(content: &Option<Content>) -> usize
     ensures near { λ r. ⌜ r < 2 ^ 63 + 8 ⌝ }
 {
     match content {
-        Some(Content { valid_until: Some(_), id, .. }) => LATE_ID_PLACE - FLAGS_SIZE + id.len(),
-        Some(Content { valid_until: None, id, .. }) => UNTIL_PLACE - FLAGS_SIZE + id.len(),
+        Some(
+            Content {
+                valid_until: Some(_),
+                id,
+                ..
+            },
+        ) => LATE_ID_PLACE - FLAGS_SIZE + id.len(),
+        Some(
+            Content {
+                valid_until: None,
+                id,
+                ..
+            },
+        ) => UNTIL_PLACE - FLAGS_SIZE + id.len(),
         None => 0,
     }
 }
@@ -54,7 +66,9 @@ pub(crate) fn wrong_in_time(at: usize, time: Time) -> Option<usize>
     ensures { λ r. ⌜ r ≡ time-wrong at time ⌝ }
 {
     match time {
-        Time { milliseconds, .. } if milliseconds > MILLISECONDS_MOST => Some(at + MILLISECONDS_OFFSET),
+        Time { milliseconds, .. } if milliseconds > MILLISECONDS_MOST => Some(
+            at + MILLISECONDS_OFFSET,
+        ),
         _ => None,
     }
 }

@@ -7,6 +7,7 @@ ghost use Rattle.std.specs.declared.option.Option.the-variants.{None};
 ghost use Rattle.std.specs.declared.result.Result.the-variants.{Ok};
 ghost use Rattle.bytes.specs.Places.{Smallest};
 ghost use Rattle.body.specs.Format.{ones};
+ghost use Rattle.body.specs.Laws.{Refuses-first};
 ghost use Rattle.body.specs.Messages.{Said};
 ghost use Rattle.body.specs.Reading.{reading};
 ghost use Rattle.body_writing.specs.Outputs.{write-answer, output-after};
@@ -36,11 +37,14 @@ pub trait WritableKind<'a>: Kind<'a> + WritableFormat {
 
 // Writes a message of any written kind, reads it back, and answers the body's length. A refused message leaves the output
 // as it was; it is refused for an output too short, or else at the smallest place of a wrong value.
-pub fn write_body<'a, K: WritableKind<'a>>(message: &K::Message, out: &mut [u8]) -> Result<usize, Refusal>
+pub fn write_body<'a, K: WritableKind<'a>>(
+    message: &K::Message,
+    out: &mut [u8],
+) -> Result<usize, Refusal>
     ensures answer { λ r. ⌜ r ≡ write-answer (K·Format .wrong (K·Kind .said (now (message .entry)))) (K·Format .bytes ones (K·Kind .said (now (message .entry)))) (now (out .entry)) ⌝ }
     ensures output { λ _. ⌜ now (out .exit) ≡ output-after (K·Format .wrong (K·Kind .said (now (message .entry)))) (K·Format .bytes ones (K·Kind .said (now (message .entry)))) (now (out .entry)) ⌝ }
     ensures back { λ r. ⌜ made r (λ n. reading (K·Format .fault) (K·Format .says) (take n (now (out .exit))) ≡ Ok (K·Kind .said (now (message .entry)))) ⌝ }
-    ensures smallest { λ _. ⌜ Smallest (K·WritableFormat .unfit (K·Kind .said (now (message .entry)))) (K·Format .wrong (K·Kind .said (now (message .entry)))) ⌝ }
+    ensures refuses { λ r. ⌜ Refuses-first (K·WritableFormat .unfit (K·Kind .said (now (message .entry)))) r ⌝ }
 {
     let n = K::write(message, out)?;
     K::check(&out[0..n])?;

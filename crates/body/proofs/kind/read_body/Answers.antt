@@ -10,7 +10,7 @@ returns g c =
     let f = g .K·Format in
     let bs : Bytes b = λ i. search needs in
     record {
-        answer = c .read .ensures .answer;
-        accepts = accepts (λ m. Writing (f .wrong) (f .bytes) m b) (f .fault b) (f .says b) _ (c .read .ensures .answer) (λ e. g .K·Format·met .only b bs e) (λ m w. g .K·Format·met .every m b w);
-        refuses = refuses-first (f .faulty b) (f .fault b) (f .says b) _ (c .read .ensures .answer) (g .K·Format·met .smallest b)
+      answer = c .read .ensures .answer;
+      accepts = accepts (λ m. Writing (f .wrong) (f .bytes) m b) (f .fault b) (f .says b) _ (c .read .ensures .answer) (λ e. g .K·Format·met .only b bs e) (λ m w. g .K·Format·met .every m b w);
+      refuses = refuses-first (f .faulty b) (f .fault b) (f .says b) _ (c .read .ensures .answer) (g .K·Format·met .smallest b);
     }

@@ -21,8 +21,8 @@ pub lay-content-part-channel-at-requires : need.lay-content-part-channel-at-requ
 lay-content-part-channel-at-requires c κs =
     let m = c .args .message .now in
     record {
-        room = omega (arith, message-length (option identified (m .content)) (m .channel));
-        right = message-right is-alphanumeric (option identified (m .content)) (m .channel) (c .pre .right) .0
+      room = omega (arith, message-length (option identified (m .content)) (m .channel));
+      right = message-right is-alphanumeric (option identified (m .content)) (m .channel) (c .pre .right) .0;
     }
 
 pub lay-channel-requires : need.lay-channel-requires
@@ -30,8 +30,8 @@ lay-channel-requires c κs =
     let m = c .args .message .now in
     let place : c .lay-content-part-channel-at .result ≡ 1 + length (content-bytes ones (option identified (m .content))) = omega arith in
     record {
-        room = omega (arith, message-length (option identified (m .content)) (m .channel));
-        right = ap (λ p. channel-wrong p (m .channel)) place ∙ message-right is-alphanumeric (option identified (m .content)) (m .channel) (c .pre .right) .1
+      room = omega (arith, message-length (option identified (m .content)) (m .channel));
+      right = ap (λ p. channel-wrong p (m .channel)) place ∙ message-right is-alphanumeric (option identified (m .content)) (m .channel) (c .pre .right) .1;
     }
 
 pub returns : need.returns

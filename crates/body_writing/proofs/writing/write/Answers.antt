@@ -13,6 +13,6 @@ returns c =
     let m = said-content-id (c .args .message .now) in
     let right : content-id-wrong is-alphanumeric m ≡ None = sym (c .in-rest .ensures tt) in
     record {
-        answer = written-answer (content-id-wrong is-alphanumeric m) (content-id-bytes ones m) (c .args .out .now) _ (c .message-size-size .ensures) (omega arith) right;
-        output = written-bytes (content-id-wrong is-alphanumeric m) (content-id-bytes ones m) (c .args .out .now) _ (omega arith) right (c .lay-message .ensures)
+      answer = written-answer (content-id-wrong is-alphanumeric m) (content-id-bytes ones m) (c .args .out .now) _ (c .message-size-size .ensures) (omega arith) right;
+      output = written-bytes (content-id-wrong is-alphanumeric m) (content-id-bytes ones m) (c .args .out .now) _ (omega arith) right (c .lay-message .ensures);
     }

@@ -14,6 +14,6 @@ returns c =
     let right : presentation-wrong m ≡ None = sym (c .in-rest .ensures tt) in
     let six : length (c .time-as-bytes .result) ≡ 6 = ap length (c .time-as-bytes .ensures) in
     record {
-        answer = written-answer (presentation-wrong m) (presentation-bytes ones m) (c .args .out .now) _ (omega arith) (omega arith) right;
-        output = written-bytes (presentation-wrong m) (presentation-bytes ones m) (c .args .out .now) _ (omega arith) right (c .lay .ensures .bytes ∙ ap (laid (c .args .out .now) 0) (c .time-as-bytes .ensures))
+      answer = written-answer (presentation-wrong m) (presentation-bytes ones m) (c .args .out .now) _ (omega arith) (omega arith) right;
+      output = written-bytes (presentation-wrong m) (presentation-bytes ones m) (c .args .out .now) _ (omega arith) right (c .lay .ensures .bytes ∙ ap (laid (c .args .out .now) 0) (c .time-as-bytes .ensures));
     }
