@@ -8,7 +8,7 @@ use native.Mathlib.Omega.{arith}
 use lib.Dec.{ltb}
 use lib.ListN.{length, take, drop}
 use Rattle.std.proofs.shelf.Lists.{length-append, take-at}
-use Rattle.std.proofs.shelf.Tests.{le-ltb, cond-false}
+use Rattle.std.proofs.shelf.Tests.{le-ltb, ltb-false, cond-false}
 use Rattle.std.specs.declared.option.Option.{Option}
 use Rattle.std.specs.declared.option.Option.the-variants.{Some, None}
 use Rattle.std.specs.declared.result.Result.{Result}
@@ -56,6 +56,17 @@ by-room false None body out after n why e f =
 
 pub written : (w : Option ℕ) (body out after : List ℕ) (n : ℕ) → Ok n ≡ write-answer w body out → after ≡ output-after w body out → (w ≡ None) × (take n after ≡ body)
 written w body out after n e f = by-room _ w body out after n _ e f
+
+-- and within it
+by-room-within : (t : Bool) (w : Option ℕ) (body out : List ℕ) (n : ℕ) (why : Refusal) → ltb (length out) (length body) ≡ t → Ok n ≡ cond t (Err why) (unless Body w (length body)) → n ≤ length out
+by-room-within true w body out n why h e = let z : _≡_ {A = ℕ} 0 1 = cc in absurd (omega arith)
+by-room-within false (Some p) body out n why h e = let z : _≡_ {A = ℕ} 0 1 = cc in absurd (omega arith)
+by-room-within false None body out n why h e =
+    let l : n ≡ length body = cc in
+    omega (arith, ltb-false _ _ h)
+
+pub written-within : (w : Option ℕ) (body out : List ℕ) (n : ℕ) → Ok n ≡ write-answer w body out → n ≤ length out
+written-within w body out n e = by-room-within (ltb (length out) (length body)) w body out n _ refl e
 
 pub never : {A B : Type 0} (f : A → B) (r : Result A Refusal) (m : A) (why : Refusal) → Err why ≡ told f r → r ≡ Ok m → ⊥
 never f r m why e h = let k : told f r ≡ Ok (f m) = ap (told f) h in let z : _≡_ {A = ℕ} 0 1 = cc in absurd (omega arith)

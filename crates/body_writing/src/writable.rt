@@ -1,7 +1,7 @@
 // Kinds that are written too, and the one call that writes a message and reads it back.
-ghost use Prim.Native.Nat.{ℕ};
+ghost use Prim.Native.Nat.{ℕ, _≤_};
 ghost use mathlib.Core.Path.{_≡_};
-ghost use lib.ListN.{take};
+ghost use lib.ListN.{length, take};
 ghost use Rattle.std.specs.Vec.{made};
 ghost use Rattle.std.specs.declared.option.Option.the-variants.{None};
 ghost use Rattle.std.specs.declared.result.Result.the-variants.{Ok};
@@ -43,6 +43,7 @@ pub fn write_body<'a, K: WritableKind<'a>>(
 ) -> Result<usize, Refusal>
     ensures answer { λ r. ⌜ r ≡ write-answer (K·Format .wrong (K·Kind .said (now (message .entry)))) (K·Format .bytes ones (K·Kind .said (now (message .entry)))) (now (out .entry)) ⌝ }
     ensures output { λ _. ⌜ now (out .exit) ≡ output-after (K·Format .wrong (K·Kind .said (now (message .entry)))) (K·Format .bytes ones (K·Kind .said (now (message .entry)))) (now (out .entry)) ⌝ }
+    ensures within { λ r. ⌜ made r (λ n. n ≤ length (now (out .entry))) ⌝ }
     ensures back { λ r. ⌜ made r (λ n. reading (K·Format .fault) (K·Format .says) (take n (now (out .exit))) ≡ Ok (K·Kind .said (now (message .entry)))) ⌝ }
     ensures refuses { λ r. ⌜ Refuses-first (K·WritableFormat .unfit (K·Kind .said (now (message .entry)))) r ⌝ }
 {

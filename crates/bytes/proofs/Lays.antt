@@ -86,8 +86,8 @@ laid-place xs a ps qs k h le =
     ⊎-elim
     (λ (lt : k - a < length ps). inr (e ∙ getD-append-left ps (drop (a + length ps) xs) 0 (k - a) lt ∙ sym (getD-append-left ps qs 0 (k - a) lt)))
     (λ (ge : length ps ≤ k - a).
-    let n : a + length ps + (k - a - length ps) ≡ k = omega arith in
-    inl (e ∙ getD-append-right ps (drop (a + length ps) xs) (length ps) (k - a) 0 refl ge ∙ getD-drop (a + length ps) xs (k - a - length ps) 0 ∙ ap (λ i. getD xs i 0) n))
+        let n : a + length ps + (k - a - length ps) ≡ k = omega arith in
+        inl (e ∙ getD-append-right ps (drop (a + length ps) xs) (length ps) (k - a) 0 refl ge ∙ getD-drop (a + length ps) xs (k - a - length ps) 0 ∙ ap (λ i. getD xs i 0) n))
     (cases-lt (k - a) (length ps))
 
 -- three writes in a row

@@ -8,7 +8,7 @@ use Rattle.std.specs.declared.result.Result.the-variants.{Err}
 use Rattle.bytes.specs.Places.{told}
 use Rattle.body.specs.Format.{ones}
 use Rattle.body.specs.Reading.{reading}
-use Rattle.body_writing.proofs.Writes.{written, never, refuses-first-out}
+use Rattle.body_writing.proofs.Writes.{written, written-within, never, refuses-first-out}
 use Rattle.body_writing.proofs.writable.write_body.Needs as need
 
 -- what was written is read back, so the second `?` never leaves
@@ -30,6 +30,7 @@ returns g c =
     record {
       answer = done .answer;
       output = done .output;
+      within = written-within (g .K·Format .wrong m) (g .K·Format .bytes ones m) (c .args .out .now) (c .in-Continue-n .n) (done .answer);
       back = ap read (was .1) ∙ sym (g .K·WritableFormat·met .back _ (was .0));
       refuses = refuses-first-out (g .K·WritableFormat .unfit m) (g .K·Format .wrong m) (g .K·Format .bytes ones m) (c .args .out .now) _ (done .answer) (g .K·WritableFormat·met .smallest m);
     }
@@ -44,6 +45,7 @@ returns-in-Break-n g c =
     record {
       answer = is ∙ done .answer;
       output = done .output;
+      within = search needs;
       back = search needs;
       refuses = refuses-first-out (g .K·WritableFormat .unfit m) (g .K·Format .wrong m) (g .K·Format .bytes ones m) (c .args .out .now) _ (is ∙ done .answer) (g .K·WritableFormat·met .smallest m);
     }
