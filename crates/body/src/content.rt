@@ -11,6 +11,7 @@ ghost use denote.Ref.{now as held};
 use super::fields::time_at;
 use super::identifier::fits_length;
 use super::identifier::wrong_character;
+use super::layout::CONTENT_ONES;
 use super::layout::LATE_ID_PLACE;
 use super::layout::LENGTH_PLACE;
 use super::layout::TYPE_PLACE;
@@ -25,7 +26,7 @@ pub(crate) fn id_place(body: &[u8]) -> usize
     requires { ⌜ 3 ≤ length (now body) ⌝ }
     ensures { λ r. ⌜ r ≡ id-at (now (body .entry)) ⌝ }
 {
-    if body[TYPE_PLACE] % 128 >= UNTIL_FLAG {
+    if body[TYPE_PLACE] % CONTENT_ONES >= UNTIL_FLAG {
         LATE_ID_PLACE
     } else {
         UNTIL_PLACE
@@ -37,7 +38,7 @@ fn until_in(body: &[u8]) -> Result<Option<Time>, Refusal>
     requires { ⌜ 3 ≤ length (now body) ⌝ }
     ensures { λ r. ⌜ r ≡ unless Body (until-fault (now (body .entry))) (until-of (now (body .entry))) ⌝ }
 {
-    if body[TYPE_PLACE] % 128 < UNTIL_FLAG {
+    if body[TYPE_PLACE] % CONTENT_ONES < UNTIL_FLAG {
         return Ok(None);
     }
     let time = time_at(body, UNTIL_PLACE)?;
@@ -54,7 +55,7 @@ fn id_in<'a>(body: &'a [u8]) -> Result<&'a [u8], Refusal>
     let end = at + body[LENGTH_PLACE] as usize;
     let there = end.min(body.len());
     let id = &body[at..there];
-    if let Some(i) = wrong_character(body[TYPE_PLACE] % 64, id) {
+    if let Some(i) = wrong_character(body[TYPE_PLACE] % UNTIL_FLAG, id) {
         return Err(Refusal::Body(at + i));
     }
     if body.len() < end {
@@ -70,7 +71,7 @@ pub(crate) fn content_in<'a>(body: &'a [u8]) -> Result<Content<'a>, Refusal>
     if body.len() < UNTIL_PLACE {
         return Err(Refusal::Body(body.len()));
     }
-    let id_type = body[TYPE_PLACE] % 64;
+    let id_type = body[TYPE_PLACE] % UNTIL_FLAG;
     if !fits_length(id_type, body[LENGTH_PLACE] as usize) {
         return Err(Refusal::Body(LENGTH_PLACE));
     }

@@ -5,8 +5,14 @@ ghost use Rattle.bytes.specs.Places.{unless};
 ghost use Rattle.refusal.specs.declared.Refusal.the-variants.{Body};
 ghost use Rattle.body.specs.Reading.{time-at, time-fault, channel-of, channel-fault};
 use super::layout::CHANNEL_SIZE;
+use super::layout::MAJOR_HIGH;
+use super::layout::MAJOR_LOW;
+use super::layout::MAJOR_OFFSET;
+use super::layout::MILLISECONDS_HIGH;
 use super::layout::MILLISECONDS_MOST;
 use super::layout::MILLISECONDS_OFFSET;
+use super::layout::MINOR_HIGH;
+use super::layout::MINOR_OFFSET;
 use super::layout::TIME_SIZE;
 use super::message::Channel;
 use super::message::Time;
@@ -20,7 +26,8 @@ pub(crate) fn time_at(body: &[u8], at: usize) -> Result<Time, Refusal>
     if body.len() < at + TIME_SIZE {
         return Err(Refusal::Body(body.len()));
     }
-    let milliseconds = (body[at + 4] % 4) as u16 * 256 + body[at + 5] as u16;
+    let milliseconds = body[at + MILLISECONDS_OFFSET] as u16 % MILLISECONDS_HIGH * 256
+        + body[at + 5] as u16;
     if milliseconds > MILLISECONDS_MOST {
         return Err(Refusal::Body(at + MILLISECONDS_OFFSET));
     }
@@ -41,7 +48,8 @@ pub(crate) fn channel_at(body: &[u8], at: usize) -> Result<Channel, Refusal>
         return Err(Refusal::Body(body.len()));
     }
     let bsid = body[at] as u16 * 256 + body[at + 1] as u16;
-    let major = (body[at + 2] % 16) as u16 * 64 + (body[at + 3] / 4) as u16;
-    let minor = (body[at + 3] % 4) as u16 * 256 + body[at + 4] as u16;
+    let major = body[at + MAJOR_OFFSET] as u16 % MAJOR_HIGH * MAJOR_LOW
+        + body[at + MINOR_OFFSET] as u16 / MINOR_HIGH;
+    let minor = body[at + MINOR_OFFSET] as u16 % MINOR_HIGH * 256 + body[at + 4] as u16;
     Ok(Channel { bsid, major, minor })
 }

@@ -51,7 +51,7 @@ fn channel_part(body: &[u8], at: usize) -> Result<Option<Channel>, Refusal>
     requires near { ⌜ at < 512 ⌝ }
     ensures { λ r. ⌜ r ≡ unless Body (part (has-channel (now (body .entry))) (channel-fault at (now (body .entry)))) (present (has-channel (now (body .entry))) (channel-of at (now (body .entry)))) ⌝ }
 {
-    if body[0] % 128 < CHANNEL_FLAG {
+    if body[0] % CONTENT_FLAG < CHANNEL_FLAG {
         return Ok(None);
     }
     let channel = channel_at(body, at)?;
@@ -64,7 +64,7 @@ fn end_place(body: &[u8], at: usize) -> usize
     requires near { ⌜ at < 512 ⌝ }
     ensures { λ r. ⌜ r ≡ cond (has-channel (now (body .entry))) (at + 5) at ⌝ }
 {
-    if body[0] % 128 < CHANNEL_FLAG {
+    if body[0] % CONTENT_FLAG < CHANNEL_FLAG {
         at
     } else {
         at + CHANNEL_SIZE

@@ -7,6 +7,8 @@ ghost use Rattle.bytes.specs.Laid.{laid};
 ghost use Rattle.body.specs.Format.{ones, time-bytes, channel-bytes};
 use body::CHANNEL_ONES;
 use body::Channel;
+use body::MAJOR_LOW;
+use body::MINOR_HIGH;
 use body::TIME_ONES;
 use body::Time;
 
@@ -50,8 +52,8 @@ pub(crate) fn channel_as_bytes(channel: Channel) -> [u8; 5]
     [
         (b / 256) as u8,
         (b % 256) as u8,
-        (CHANNEL_ONES + m / 64) as u8,
-        (m % 64 * 4 + n / 256) as u8,
+        (CHANNEL_ONES + m / MAJOR_LOW) as u8,
+        (m % MAJOR_LOW * MINOR_HIGH + n / 256) as u8,
         (n % 256) as u8,
     ]
 }

@@ -22,9 +22,25 @@ use refusal::Refusal;
 use std::io;
 
 // The title 10.5240/7791-8534-2C23-9030-8610-5: prefix 5240, then ten bytes, without the check character.
-const EIDR: [u8; 12] = [0x14, 0x78, 0x77, 0x91, 0x85, 0x34, 0x2c, 0x23, 0x90, 0x30, 0x86, 0x10];
+const EIDR: [u8; 12] = [
+    0x14,
+    0x78,
+    0x77,
+    0x91,
+    0x85,
+    0x34,
+    0x2c,
+    0x23,
+    0x90,
+    0x30,
+    0x86,
+    0x10,
+];
+
 const EIDR_TYPE: u8 = 1;
+
 const AD_ID: &[u8] = b"RUEL0042000H";
+
 const AD_ID_TYPE: u8 = 2;
 
 // Bytes in capitals, on a line of their own.
@@ -93,7 +109,11 @@ fn print_content_id(rt: &LibcRuntime, body: &[u8]) -> io::Result<()> {
 }
 
 // Writes a content ID message, reads it back and prints it.
-fn write_content_id(rt: &LibcRuntime, content: Option<Content>, channel: Option<Channel>) -> io::Result<()> {
+fn write_content_id(
+    rt: &LibcRuntime,
+    content: Option<Content>,
+    channel: Option<Channel>,
+) -> io::Result<()> {
     let mut out = [0u8; 64];
     match write_body::<ContentIds>(&ContentId { content, channel }, &mut out) {
         Ok(length) => print_content_id(rt, &out[..length]),
@@ -122,10 +142,25 @@ fn print_plain(rt: &LibcRuntime, body: &[u8]) -> io::Result<()> {
 }
 
 pub fn show(rt: &LibcRuntime) -> io::Result<()> {
-    let until = Time { seconds: 1, milliseconds: 999 };
-    let channel = Channel { bsid: 0x0102, major: 5, minor: 1 };
-    let title = Content { id_type: EIDR_TYPE, valid_until: None, id: &EIDR };
-    let spot = Content { id_type: AD_ID_TYPE, valid_until: Some(until), id: AD_ID };
+    let until = Time {
+        seconds: 1,
+        milliseconds: 999,
+    };
+    let channel = Channel {
+        bsid: 0x0102,
+        major: 5,
+        minor: 1,
+    };
+    let title = Content {
+        id_type: EIDR_TYPE,
+        valid_until: None,
+        id: &EIDR,
+    };
+    let spot = Content {
+        id_type: AD_ID_TYPE,
+        valid_until: Some(until),
+        id: AD_ID,
+    };
     write_time(rt, until)?;
     write_content_id(rt, None, Some(channel))?;
     write_content_id(rt, Some(title), None)?;
