@@ -23,7 +23,7 @@ use Rattle.body.specs.Format.{ones, content-bytes, channel-bytes, content-wrong
 use Rattle.body.specs.Messages.{Identified, content-id}
 use Rattle.body.specs.Laws.{Refuses-first}
 use Rattle.body.proofs.Laws.{refuses-first}
-use Rattle.body_writing.specs.Outputs.{write-answer, output-after, left}
+use Rattle.body_writing.specs.Outputs.{answer-for, output-for, left}
 
 pub message-length : (c : Option Identified) (h : Option Channel) → length (content-id-bytes ones (content-id c h)) ≡ 1 + (length (content-bytes ones c) + length (channel-bytes (ones .channel) h))
 unfolding content-id-bytes
@@ -37,10 +37,10 @@ message-right ok c h e =
     (k .0, both-none (channel-wrong _ h) None (k .1) .0)
 
 -- a body is written whole, and the bytes past it stay
-pub written-bytes : (w : Option ℕ) (body out after : List ℕ) → length body ≤ length out → w ≡ None → after ≡ laid out 0 body → after ≡ output-after w body out
+pub written-bytes : (w : Option ℕ) (body out after : List ℕ) → length body ≤ length out → w ≡ None → after ≡ laid out 0 body → after ≡ output-for w body out
 written-bytes w body out after h e d = d ∙ (sym (ap (λ x. left x body out) e) ∙ sym (cond-false _ _ _ (le-ltb _ _ h)))
 
-pub written-answer : (w : Option ℕ) (body out : List ℕ) (n : ℕ) → n ≡ length body → n ≤ length out → w ≡ None → Ok n ≡ write-answer w body out
+pub written-answer : (w : Option ℕ) (body out : List ℕ) (n : ℕ) → n ≡ length body → n ≤ length out → w ≡ None → Ok n ≡ answer-for w body out
 written-answer w body out n e h d =
     let l : length body ≤ length out = omega arith in
     ap Ok e ∙ (sym (ap (λ x. unless Body x (length body)) d) ∙ sym (cond-false _ _ _ (le-ltb _ _ l)))
@@ -54,7 +54,7 @@ by-room false None body out after n why e f =
     let l : n ≡ length body = cc in
     (refl, ap (take n) f ∙ take-at body _ n (sym l))
 
-pub written : (w : Option ℕ) (body out after : List ℕ) (n : ℕ) → Ok n ≡ write-answer w body out → after ≡ output-after w body out → (w ≡ None) × (take n after ≡ body)
+pub written : (w : Option ℕ) (body out after : List ℕ) (n : ℕ) → Ok n ≡ answer-for w body out → after ≡ output-for w body out → (w ≡ None) × (take n after ≡ body)
 written w body out after n e f = by-room _ w body out after n _ e f
 
 -- and within it
@@ -65,7 +65,7 @@ by-room-within false None body out n why h e =
     let l : n ≡ length body = cc in
     omega (arith, ltb-false _ _ h)
 
-pub written-within : (w : Option ℕ) (body out : List ℕ) (n : ℕ) → Ok n ≡ write-answer w body out → n ≤ length out
+pub written-within : (w : Option ℕ) (body out : List ℕ) (n : ℕ) → Ok n ≡ answer-for w body out → n ≤ length out
 written-within w body out n e = by-room-within (ltb (length out) (length body)) w body out n _ refl e
 
 pub never : {A B : Type 0} (f : A → B) (r : Result A Refusal) (m : A) (why : Refusal) → Err why ≡ told f r → r ≡ Ok m → ⊥
@@ -81,5 +81,5 @@ by-room-refuses true W w n l r e s =
     }
 by-room-refuses false W w n l r e s = refuses-first W w n r e s
 
-pub refuses-first-out : (W : ℕ → Type 0) (w : Option ℕ) (body out : List ℕ) (r : Result ℕ Refusal) → r ≡ write-answer w body out → Smallest W w → Refuses-first W r
+pub refuses-first-out : (W : ℕ → Type 0) (w : Option ℕ) (body out : List ℕ) (r : Result ℕ Refusal) → r ≡ answer-for w body out → Smallest W w → Refuses-first W r
 refuses-first-out W w body out r e s = by-room-refuses (ltb (length out) (length body)) W w (length body) (length out) r e s

@@ -31,8 +31,8 @@ pub trait WritableFormat: Format {
 pub trait WritableKind<'a>: Kind<'a> + WritableFormat {
     // Writes a message into an output, and answers the body's length. The bytes past it stay.
     fn write(message: &Self::Message, out: &mut [u8]) -> Result<usize, Refusal>
-        ensures answer { λ r. ⌜ r ≡ write-answer (Self·Format .wrong (Self·Kind .said (now (message .entry)))) (Self·Format .bytes ones (Self·Kind .said (now (message .entry)))) (now (out .entry)) ⌝ }
-        ensures output { λ _. ⌜ now (out .exit) ≡ output-after (Self·Format .wrong (Self·Kind .said (now (message .entry)))) (Self·Format .bytes ones (Self·Kind .said (now (message .entry)))) (now (out .entry)) ⌝ };
+        ensures answer { λ r. ⌜ r ≡ write-answer (Self·Format .wrong) (Self·Format .bytes) (Self·Kind .said (now (message .entry))) (now (out .entry)) ⌝ }
+        ensures output { λ _. ⌜ now (out .exit) ≡ output-after (Self·Format .wrong) (Self·Format .bytes) (Self·Kind .said (now (message .entry))) (now (out .entry)) ⌝ };
 }
 
 // Writes a message of any written kind, reads it back, and answers the body's length. A refused message leaves the output
@@ -41,8 +41,8 @@ pub fn write_body<'a, K: WritableKind<'a>>(
     message: &K::Message,
     out: &mut [u8],
 ) -> Result<usize, Refusal>
-    ensures answer { λ r. ⌜ r ≡ write-answer (K·Format .wrong (K·Kind .said (now (message .entry)))) (K·Format .bytes ones (K·Kind .said (now (message .entry)))) (now (out .entry)) ⌝ }
-    ensures output { λ _. ⌜ now (out .exit) ≡ output-after (K·Format .wrong (K·Kind .said (now (message .entry)))) (K·Format .bytes ones (K·Kind .said (now (message .entry)))) (now (out .entry)) ⌝ }
+    ensures answer { λ r. ⌜ r ≡ write-answer (K·Format .wrong) (K·Format .bytes) (K·Kind .said (now (message .entry))) (now (out .entry)) ⌝ }
+    ensures output { λ _. ⌜ now (out .exit) ≡ output-after (K·Format .wrong) (K·Format .bytes) (K·Kind .said (now (message .entry))) (now (out .entry)) ⌝ }
     ensures within { λ r. ⌜ made r (λ n. n ≤ length (now (out .entry))) ⌝ }
     ensures back { λ r. ⌜ made r (λ n. reading (K·Format .fault) (K·Format .says) (take n (now (out .exit))) ≡ Ok (K·Kind .said (now (message .entry)))) ⌝ }
     ensures refuses { λ r. ⌜ Refuses-first (K·WritableFormat .unfit (K·Kind .said (now (message .entry)))) r ⌝ }

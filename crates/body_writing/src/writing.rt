@@ -44,8 +44,8 @@ fn lay_message(out: &mut [u8], message: &ContentId)
 
 // Writes a content ID body, and answers its length.
 pub(crate) fn write(message: &ContentId, out: &mut [u8]) -> Result<usize, Refusal>
-    ensures answer { λ r. ⌜ r ≡ write-answer (content-id-wrong is-alphanumeric (said-content-id (now (message .entry)))) (content-id-bytes ones (said-content-id (now (message .entry)))) (now (out .entry)) ⌝ }
-    ensures output { λ _. ⌜ now (out .exit) ≡ output-after (content-id-wrong is-alphanumeric (said-content-id (now (message .entry)))) (content-id-bytes ones (said-content-id (now (message .entry)))) (now (out .entry)) ⌝ }
+    ensures answer { λ r. ⌜ r ≡ write-answer (content-id-wrong is-alphanumeric) content-id-bytes (said-content-id (now (message .entry))) (now (out .entry)) ⌝ }
+    ensures output { λ _. ⌜ now (out .exit) ≡ output-after (content-id-wrong is-alphanumeric) content-id-bytes (said-content-id (now (message .entry))) (now (out .entry)) ⌝ }
 {
     let size = message_size(message);
     if out.len() < size {
