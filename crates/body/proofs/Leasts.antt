@@ -14,10 +14,10 @@ use Rattle.std.specs.declared.option.Option.the-variants.{Some, None}
 use Rattle.bytes.specs.Places.{wrong, part, or-else, shifted, Smallest, at, nowhere}
 use Rattle.bytes.proofs.Steps.{skip, stop, only, passes, fails, part-true, part-false, cases-option}
 use Rattle.body.specs.Identifiers.{length-fits, wrong-from, misspelt}
-use Rattle.body.specs.Reading.{has-content, has-channel, has-until, type-of, size-of, id-at, id-of, channel-at, end-of, until-fault, id-fault, content-fault, channel-fault, content-id-fault, presentation-fault, millis-at, time-fault}
+use Rattle.body.specs.Reading.{has-content, has-channel, has-until, type-of, size-of, id-at, id-of, channel-at, end-of, until-fault, id-fault, content-fault, channel-fault, content-part-fault, content-id-fault, presentation-fault, millis-at, time-fault}
 use Rattle.body.specs.Faults.{Content-id-faulty, lacks, nothing, misfit, late, character, after, Presentation-faulty, time-lacks, time-late, time-after}
 use Rattle.body.proofs.Spelling.{good-all, FirstBad, bad-first}
-use Rattle.body.proofs.Tests.{content-part, channel-part, end-part, content-fault-at-id, content-fault-until, empty-fault, flags-fault, fault-at-content, fault-at-channel, fault-at-end}
+use Rattle.body.proofs.Tests.{channel-part, end-part, content-fault-at-id, content-fault-until, empty-fault, flags-fault, fault-at-content, fault-at-channel, fault-at-end}
 
 module _ (ok : ℕ → Bool) where
   -- ---- the smallest place, test by test
@@ -54,7 +54,7 @@ module _ (ok : ℕ → Bool) where
   end-without : (b : List ℕ) → has-channel b ≡ false → end-of b ≡ channel-at b
   end-without b e = ap (λ t. cond t (channel-at b + 5) (channel-at b)) e
 
-  by-end : (b : List ℕ) → 1 ≤ length b → 64 ≤ getD b 0 0 → content-part ok b ≡ None → channel-part b ≡ None → end-of b ≤ length b → Clean b → Smallest (Content-id-faulty ok b) (content-id-fault ok b)
+  by-end : (b : List ℕ) → 1 ≤ length b → 64 ≤ getD b 0 0 → content-part-fault ok b ≡ None → channel-part b ≡ None → end-of b ≤ length b → Clean b → Smallest (Content-id-faulty ok b) (content-id-fault ok b)
   by-end b l f cp hp le clean =
       let e : content-id-fault ok b ≡ end-part b = fault-at-end ok b l f cp hp in
       ⊎-elim
@@ -66,7 +66,7 @@ module _ (ok : ℕ → Bool) where
       (nowhere (λ q w. let n : end-of b + q + 1 ≤ q = least b (end-of b + q + 1) (λ x. omega arith) (λ x. omega arith) (λ x y z. absurd (clean .fits y z)) (λ x y z w. absurd (clean .timely y z w)) (λ i x y z w v. absurd (clean .spelt i x z w v)) (λ x. omega arith) q w in omega arith)))
       (cases-lt (end-of b) (length b))
 
-  by-channel : (b : List ℕ) → 1 ≤ length b → 64 ≤ getD b 0 0 → content-part ok b ≡ None → channel-at b ≤ length b → Clean b → Smallest (Content-id-faulty ok b) (content-id-fault ok b)
+  by-channel : (b : List ℕ) → 1 ≤ length b → 64 ≤ getD b 0 0 → content-part-fault ok b ≡ None → channel-at b ≤ length b → Clean b → Smallest (Content-id-faulty ok b) (content-id-fault ok b)
   by-channel b l f cp le clean =
       ⊎-elim
       (λ (has : has-channel b ≡ true).
@@ -95,7 +95,7 @@ module _ (ok : ℕ → Bool) where
   content-end b e = ap (λ t. cond t (id-at b + size-of b) 1) e
 
   content-fails : (b : List ℕ) (p : ℕ) → 1 ≤ length b → 64 ≤ getD b 0 0 → has-content b ≡ true → content-fault ok b ≡ Some p → content-id-fault ok b ≡ Some p
-  content-fails b p l f has e = fault-at-content ok b l f ∙ stop (content-part ok b) _ p (part-true _ (content-fault ok b) has ∙ e)
+  content-fails b p l f has e = fault-at-content ok b l f ∙ stop (content-part-fault ok b) _ p (part-true _ (content-fault ok b) has ∙ e)
 
   -- a character of the identifier is the body's byte
   spelt-at : (b : List ℕ) (i : ℕ) → i < size-of b → getD (id-of b) i 0 ≡ getD b (id-at b + i) 0

@@ -19,10 +19,10 @@ use Rattle.bytes.proofs.Steps.{skip, passes, part-true, part-false, present-tru
 use Rattle.body.specs.declared.message.Time.{Time}
 use Rattle.body.specs.declared.message.Channel.{Channel}
 use Rattle.body.specs.Identifiers.{length-fits, misspelt}
-use Rattle.body.specs.Reading.{reading, time-at, time-fault, millis-at, has-content, has-channel, has-until, type-of, size-of, id-at, id-of, until-of, content-of, channel-at, end-of, channel-of, until-fault, id-fault, content-fault, channel-fault, content-id-fault, content-id-of, presentation-fault, presentation-of}
+use Rattle.body.specs.Reading.{reading, time-at, time-fault, millis-at, has-content, has-channel, has-until, type-of, size-of, id-at, id-of, until-of, content-of, channel-at, end-of, channel-of, until-fault, id-fault, content-fault, channel-fault, content-part-fault, content-id-fault, content-id-of, presentation-fault, presentation-of}
 use Rattle.body.specs.Messages.{Identified, Said, content-id, presentation, plain}
 use Rattle.body.specs.Format.{Reserved, Fitting, flag, flags-byte, time-bytes, until-bytes, head-bytes, content-bytes, channel-bytes, time-wrong, until-wrong, content-wrong, channel-wrong, content-id-bytes, content-id-wrong, presentation-bytes, presentation-wrong}
-use Rattle.body.proofs.Tests.{content-part, channel-part, end-part, content-fault-at-id, fault-at-end}
+use Rattle.body.proofs.Tests.{channel-part, end-part, content-fault-at-id, fault-at-end}
 use Rattle.body.proofs.Digits.{word-back, seconds-back, millis-back, major-back, minor-back}
 
 -- ---- the channel
@@ -111,7 +111,7 @@ module _ (ok : ℕ → Bool) where
   abbrev Reads : List ℕ → Said → Type 0
   Reads b m = Ok m ≡ reading (content-id-fault ok) content-id-of b
 
-  whole : (b : List ℕ) (c : Option Identified) (h : Option Channel) → 1 ≤ length b → 64 ≤ getD b 0 0 → content-part ok b ≡ None → present (has-content b) (content-of b) ≡ c → channel-part b ≡ None → end-of b ≡ length b → present (has-channel b) (channel-of (channel-at b) b) ≡ h → Reads b (content-id c h)
+  whole : (b : List ℕ) (c : Option Identified) (h : Option Channel) → 1 ≤ length b → 64 ≤ getD b 0 0 → content-part-fault ok b ≡ None → present (has-content b) (content-of b) ≡ c → channel-part b ≡ None → end-of b ≡ length b → present (has-channel b) (channel-of (channel-at b) b) ≡ h → Reads b (content-id c h)
   unfolding content-id-of
   whole b c h l f cp ce hp e he =
       done Body (content-id-fault ok b) _ (content-id-of b) (fault-at-end ok b l f cp hp ∙ passes _ (end-of b) (le-ltb _ _ (omega arith))) (sym (λ i. content-id (ce i) (he i)))

@@ -11,13 +11,10 @@ use Rattle.std.specs.declared.option.Option.the-variants.{Some, None}
 use Rattle.bytes.specs.Places.{first, part, wrong, or-else}
 use Rattle.bytes.proofs.Steps.{skip, stop, only, passes, fails}
 use Rattle.body.specs.Identifiers.{length-fits}
-use Rattle.body.specs.Reading.{type-of, size-of, has-content, has-channel, channel-at, end-of, until-fault, id-fault, content-fault, channel-fault, content-id-fault}
-
-abbrev pub content-part : (ℕ → Bool) → List ℕ → Option ℕ
-content-part ok b = part (has-content b) (content-fault ok b)
+use Rattle.body.specs.Reading.{type-of, size-of, has-content, has-channel, channel-at, end-of, until-fault, id-fault, content-fault, channel-fault, content-part-fault, channel-part-fault, content-id-fault}
 
 abbrev pub channel-part : List ℕ → Option ℕ
-channel-part b = part (has-channel b) (channel-fault (channel-at b) b)
+channel-part b = channel-part-fault (channel-at b) b
 
 abbrev pub end-part : List ℕ → Option ℕ
 end-part b = wrong (ltb (end-of b) (length b)) (end-of b)
@@ -35,14 +32,14 @@ module _ (ok : ℕ → Bool) where
   unfolding content-id-fault
   flags-fault b h k = skip _ _ (passes _ (length b) (le-ltb _ _ h)) ∙ stop _ _ _ (fails _ 0 (lt-ltb _ _ k))
 
-  pub fault-at-content : (b : List ℕ) → 1 ≤ length b → 64 ≤ getD b 0 0 → content-id-fault ok b ≡ or-else (content-part ok b) (or-else (channel-part b) (or-else (end-part b) None))
+  pub fault-at-content : (b : List ℕ) → 1 ≤ length b → 64 ≤ getD b 0 0 → content-id-fault ok b ≡ or-else (content-part-fault ok b) (or-else (channel-part b) (or-else (end-part b) None))
   unfolding content-id-fault
   fault-at-content b h k = skip _ _ (passes _ (length b) (le-ltb _ _ h)) ∙ skip _ _ (passes _ 0 (le-ltb _ _ k))
 
-  pub fault-at-channel : (b : List ℕ) → 1 ≤ length b → 64 ≤ getD b 0 0 → content-part ok b ≡ None → content-id-fault ok b ≡ or-else (channel-part b) (or-else (end-part b) None)
-  fault-at-channel b h k e = fault-at-content b h k ∙ skip (content-part ok b) _ e
+  pub fault-at-channel : (b : List ℕ) → 1 ≤ length b → 64 ≤ getD b 0 0 → content-part-fault ok b ≡ None → content-id-fault ok b ≡ or-else (channel-part b) (or-else (end-part b) None)
+  fault-at-channel b h k e = fault-at-content b h k ∙ skip (content-part-fault ok b) _ e
 
-  pub fault-at-end : (b : List ℕ) → 1 ≤ length b → 64 ≤ getD b 0 0 → content-part ok b ≡ None → channel-part b ≡ None → content-id-fault ok b ≡ end-part b
+  pub fault-at-end : (b : List ℕ) → 1 ≤ length b → 64 ≤ getD b 0 0 → content-part-fault ok b ≡ None → channel-part b ≡ None → content-id-fault ok b ≡ end-part b
   fault-at-end b h k e d = fault-at-channel b h k e ∙ (skip (channel-part b) _ d ∙ only (end-part b))
 
   pub content-fault-until : (b : List ℕ) (p : ℕ) → 3 ≤ length b → length-fits (type-of b) (size-of b) ≡ true → until-fault b ≡ Some p → content-fault ok b ≡ Some p

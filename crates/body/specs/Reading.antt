@@ -110,19 +110,35 @@ content-fault ok b =
 abbrev pub channel-fault : ℕ → List ℕ → Option ℕ
 channel-fault p b = wrong (ltb (length b) (p + 5)) (length b)
 
+-- what is wrong with the content, where there is one
+abbrev pub content-part-fault : (ℕ → Bool) → List ℕ → Option ℕ
+content-part-fault ok b = part (has-content b) (content-fault ok b)
+
+-- what the body says of a content
+abbrev pub content-part-of : List ℕ → Option Identified
+content-part-of b = present (has-content b) (content-of b)
+
+-- what is wrong with the channel that begins at p, where there is one
+abbrev pub channel-part-fault : ℕ → List ℕ → Option ℕ
+channel-part-fault p b = part (has-channel b) (channel-fault p b)
+
+-- what the body says of a channel that begins at p
+abbrev pub channel-part-of : ℕ → List ℕ → Option Channel
+channel-part-of p b = present (has-channel b) (channel-of p b)
+
 -- a content ID body: no byte, neither part, content, channel, a byte after the last field
 unfoldable pub content-id-fault : (ℕ → Bool) → List ℕ → Option ℕ
 content-id-fault ok b =
     first (wrong (ltb (length b) 1) (length b)
     ∷ wrong (ltb (getD b 0 0) 64) 0
-    ∷ part (has-content b) (content-fault ok b)
-    ∷ part (has-channel b) (channel-fault (channel-at b) b)
+    ∷ content-part-fault ok b
+    ∷ channel-part-fault (channel-at b) b
     ∷ wrong (ltb (end-of b) (length b)) (end-of b)
     ∷ [])
 
 -- what a content ID body says
 unfoldable pub content-id-of : List ℕ → Said
-content-id-of b = content-id (present (has-content b) (content-of b)) (present (has-channel b) (channel-of (channel-at b) b))
+content-id-of b = content-id (content-part-of b) (channel-part-of (channel-at b) b)
 
 -- a presentation time body: the time, or a byte after it
 abbrev pub presentation-fault : List ℕ → Option ℕ

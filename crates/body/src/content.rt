@@ -2,11 +2,10 @@
 ghost use mathlib.Core.Path.{_≡_};
 ghost use Prim.Native.Nat.{_≤_};
 ghost use lib.ListN.{length};
-ghost use Rattle.bytes.specs.Places.{unless, told};
-ghost use Rattle.refusal.specs.declared.Refusal.the-variants.{Body};
+ghost use Rattle.bytes.specs.Places.{told};
 ghost use Rattle.body.specs.Identifiers.{is-alphanumeric};
 ghost use Rattle.body.specs.Messages.{identified};
-ghost use Rattle.body.specs.Reading.{id-at, until-of, until-fault, id-of, id-fault, content-of, content-fault};
+ghost use Rattle.body.specs.Reading.{reading, id-at, until-of, until-fault, id-of, id-fault, content-of, content-fault};
 ghost use denote.Ref.{now as held};
 use super::fields::time_at;
 use super::identifier::fits_length;
@@ -36,7 +35,7 @@ pub(crate) fn id_place(body: &[u8]) -> usize
 // Until when the content is valid, where the body says so.
 fn until_in(body: &[u8]) -> Result<Option<Time>, Refusal>
     requires { ⌜ 3 ≤ length (now body) ⌝ }
-    ensures { λ r. ⌜ r ≡ unless Body (until-fault (now (body .entry))) (until-of (now (body .entry))) ⌝ }
+    ensures { λ r. ⌜ r ≡ reading until-fault until-of (now (body .entry)) ⌝ }
 {
     if body[TYPE_PLACE] % CONTENT_ONES < UNTIL_FLAG {
         return Ok(None);
@@ -49,7 +48,7 @@ fn until_in(body: &[u8]) -> Result<Option<Time>, Refusal>
 fn id_in<'a>(body: &'a [u8]) -> Result<&'a [u8], Refusal>
     requires long { ⌜ 3 ≤ length (now body) ⌝ }
     requires begins { ⌜ id-at (now body) ≤ length (now body) ⌝ }
-    ensures { λ r. ⌜ told held r ≡ unless Body (id-fault is-alphanumeric (now (body .entry))) (id-of (now (body .entry))) ⌝ }
+    ensures { λ r. ⌜ told held r ≡ reading (id-fault is-alphanumeric) id-of (now (body .entry)) ⌝ }
 {
     let at = id_place(body);
     let end = at + body[LENGTH_PLACE] as usize;
@@ -66,7 +65,7 @@ fn id_in<'a>(body: &'a [u8]) -> Result<&'a [u8], Refusal>
 
 // The content that a body identifies.
 pub(crate) fn content_in<'a>(body: &'a [u8]) -> Result<Content<'a>, Refusal>
-    ensures { λ r. ⌜ told identified r ≡ unless Body (content-fault is-alphanumeric (now (body .entry))) (content-of (now (body .entry))) ⌝ }
+    ensures { λ r. ⌜ told identified r ≡ reading (content-fault is-alphanumeric) content-of (now (body .entry)) ⌝ }
 {
     if body.len() < UNTIL_PLACE {
         return Err(Refusal::Body(body.len()));

@@ -1,9 +1,7 @@
 // The fields that several places of a body may hold: a time and a channel.
 ghost use mathlib.Core.Path.{_≡_};
 ghost use Prim.Native.Nat.{_<_};
-ghost use Rattle.bytes.specs.Places.{unless};
-ghost use Rattle.refusal.specs.declared.Refusal.the-variants.{Body};
-ghost use Rattle.body.specs.Reading.{time-at, time-fault, channel-of, channel-fault};
+ghost use Rattle.body.specs.Reading.{reading, time-at, time-fault, channel-of, channel-fault};
 use super::layout::CHANNEL_SIZE;
 use super::layout::MAJOR_HIGH;
 use super::layout::MAJOR_LOW;
@@ -21,7 +19,7 @@ use refusal::Refusal;
 // The time that begins at a place of a body. Milliseconds are the last ten bits; the six before them are not looked at.
 pub(crate) fn time_at(body: &[u8], at: usize) -> Result<Time, Refusal>
     requires { ⌜ at < 256 ⌝ }
-    ensures { λ r. ⌜ r ≡ unless Body (time-fault at (now (body .entry))) (time-at at (now (body .entry))) ⌝ }
+    ensures { λ r. ⌜ r ≡ reading (time-fault at) (time-at at) (now (body .entry)) ⌝ }
 {
     if body.len() < at + TIME_SIZE {
         return Err(Refusal::Body(body.len()));
@@ -42,7 +40,7 @@ pub(crate) fn time_at(body: &[u8], at: usize) -> Result<Time, Refusal>
 // The channel that begins at a place of a body: after BSID and four bits that are not looked at, ten bits and ten bits.
 pub(crate) fn channel_at(body: &[u8], at: usize) -> Result<Channel, Refusal>
     requires { ⌜ at < 512 ⌝ }
-    ensures { λ r. ⌜ r ≡ unless Body (channel-fault at (now (body .entry))) (channel-of at (now (body .entry))) ⌝ }
+    ensures { λ r. ⌜ r ≡ reading (channel-fault at) (channel-of at) (now (body .entry)) ⌝ }
 {
     if body.len() < at + CHANNEL_SIZE {
         return Err(Refusal::Body(body.len()));

@@ -3,11 +3,10 @@ ghost use mathlib.Core.Bool.{true, cond};
 ghost use mathlib.Core.Path.{_≡_};
 ghost use Prim.Native.Nat.{_+_, _<_, _≤_};
 ghost use lib.ListN.{length};
-ghost use Rattle.bytes.specs.Places.{unless, part, present, told};
-ghost use Rattle.refusal.specs.declared.Refusal.the-variants.{Body};
+ghost use Rattle.bytes.specs.Places.{told};
 ghost use Rattle.body.specs.Identifiers.{is-alphanumeric};
 ghost use Rattle.body.specs.Messages.{option, identified, said-content-id};
-ghost use Rattle.body.specs.Reading.{has-content, has-channel, content-of, content-fault, channel-at, channel-of, channel-fault, content-id-fault, content-id-of};
+ghost use Rattle.body.specs.Reading.{reading, has-content, has-channel, channel-at, content-part-fault, content-part-of, channel-part-fault, channel-part-of, content-id-fault, content-id-of};
 use super::content::content_in;
 use super::content::id_place;
 use super::fields::channel_at;
@@ -24,7 +23,7 @@ use refusal::Refusal;
 // The content, where the body has one.
 fn content_part<'a>(body: &'a [u8]) -> Result<Option<Content<'a>>, Refusal>
     requires { ⌜ 1 ≤ length (now body) ⌝ }
-    ensures { λ r. ⌜ told (option identified) r ≡ unless Body (part (has-content (now (body .entry))) (content-fault is-alphanumeric (now (body .entry)))) (present (has-content (now (body .entry))) (content-of (now (body .entry)))) ⌝ }
+    ensures { λ r. ⌜ told (option identified) r ≡ reading (content-part-fault is-alphanumeric) content-part-of (now (body .entry)) ⌝ }
 {
     if body[0] < CONTENT_FLAG {
         return Ok(None);
@@ -49,7 +48,7 @@ fn channel_place(body: &[u8]) -> usize
 fn channel_part(body: &[u8], at: usize) -> Result<Option<Channel>, Refusal>
     requires some { ⌜ 1 ≤ length (now body) ⌝ }
     requires near { ⌜ at < 512 ⌝ }
-    ensures { λ r. ⌜ r ≡ unless Body (part (has-channel (now (body .entry))) (channel-fault at (now (body .entry)))) (present (has-channel (now (body .entry))) (channel-of at (now (body .entry)))) ⌝ }
+    ensures { λ r. ⌜ r ≡ reading (channel-part-fault at) (channel-part-of at) (now (body .entry)) ⌝ }
 {
     if body[0] % CONTENT_FLAG < CHANNEL_FLAG {
         return Ok(None);
@@ -73,7 +72,7 @@ fn end_place(body: &[u8], at: usize) -> usize
 
 // Reads a content ID body.
 pub(crate) fn read<'a>(body: &'a [u8]) -> Result<ContentId<'a>, Refusal>
-    ensures { λ r. ⌜ told said-content-id r ≡ unless Body (content-id-fault is-alphanumeric (now (body .entry))) (content-id-of (now (body .entry))) ⌝ }
+    ensures { λ r. ⌜ told said-content-id r ≡ reading (content-id-fault is-alphanumeric) content-id-of (now (body .entry)) ⌝ }
 {
     if body.len() < FLAGS_SIZE {
         return Err(Refusal::Body(body.len()));
