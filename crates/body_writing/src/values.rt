@@ -65,12 +65,10 @@ pub(crate) fn wrong_in_time(at: usize, time: Time) -> Option<usize>
     requires { ⌜ at < 16 ⌝ }
     ensures { λ r. ⌜ r ≡ time-wrong at time ⌝ }
 {
-    match time {
-        Time { milliseconds, .. } if milliseconds > MILLISECONDS_MOST => Some(
-            at + MILLISECONDS_OFFSET,
-        ),
-        _ => None,
+    if time.milliseconds > MILLISECONDS_MOST {
+        return Some(at + MILLISECONDS_OFFSET);
     }
+    None
 }
 
 // The same of a valid-until time.
