@@ -50,7 +50,7 @@ fn roughen(line: &mut [u16], e: u16, most: u16) {
     }
 }
 
-fn trip(rt: LibcRuntime, depth: Depth, name: &str, length: usize, e: u16) -> io::Result<()> {
+fn trip(rt: &LibcRuntime, depth: Depth, name: &str, length: usize, e: u16) -> io::Result<()> {
     let bits = depth.bits();
     let bytes = payload();
     let mut line = [0u16; COUNT];
@@ -76,7 +76,7 @@ fn trip(rt: LibcRuntime, depth: Depth, name: &str, length: usize, e: u16) -> io:
 }
 
 fn report(
-    rt: LibcRuntime,
+    rt: &LibcRuntime,
     answer: Result<Option<usize>, Refusal>,
     found: &[u8; 60],
 ) -> io::Result<()> {
@@ -105,7 +105,7 @@ fn ramp() -> [u16; COUNT] {
 }
 
 // Reads so many samples of a ramp.
-fn unmarked(rt: LibcRuntime, depth: Depth, count: usize) -> io::Result<()> {
+fn unmarked(rt: &LibcRuntime, depth: Depth, count: usize) -> io::Result<()> {
     let bits = depth.bits();
     let line = ramp();
     let mut found = [0u8; 60];
@@ -118,7 +118,7 @@ fn unmarked(rt: LibcRuntime, depth: Depth, count: usize) -> io::Result<()> {
     report(rt, answer, &found)
 }
 
-pub fn show(rt: LibcRuntime) -> io::Result<()> {
+pub fn show(rt: &LibcRuntime) -> io::Result<()> {
     println!(rt, "Lines: drawn, roughened, and read by 1X, else 2X")?;
     for depth in [Depth::Eight, Depth::Ten, Depth::Twelve] {
         let q = depth.unit();
