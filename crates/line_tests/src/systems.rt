@@ -12,7 +12,7 @@ use twox::order::OneTwoRanked;
 use twox::two_x::TwoX;
 use twox::two_x::TwoXSystem;
 
-pub fn one_else_two(depth: Depth) -> Result<FirstElse<OneTwo>, Refusal> {
+pub(crate) fn one_else_two(depth: Depth) -> Result<FirstElse<OneTwo>, Refusal> {
     let q = depth.unit();
     first_else(
         OneX::new(Levels::new(depth, 4 * q, 40 * q)?),
@@ -21,7 +21,7 @@ pub fn one_else_two(depth: Depth) -> Result<FirstElse<OneTwo>, Refusal> {
 }
 
 // Some payload of 60 bytes that begins EB 52.
-pub fn payload() -> [u8; 60] {
+pub(crate) fn payload() -> [u8; 60] {
     let mut bytes = [0u8; 60];
     for i in 0..60usize {
         bytes[i] = (i * 41 % 256) as u8;

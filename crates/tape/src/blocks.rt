@@ -1,8 +1,10 @@
 // Blocks: a message is cut, its blocks are written, and a payload with a damaged block is walked.
-use refusal::Refusal;
+use crate::print::Hex;
+use crate::print::HexDisplay;
+use crate::print::print_refusal;
 use sending::Room;
 use sending::Sending;
-use std::error::AnyError;
+use std::io;
 use walk::Entry;
 use walk::Walk;
 use walk::WalkIterator;
@@ -10,25 +12,8 @@ use wire::write_block;
 
 const MESSAGE: &[u8] = b"reference tape 42, spot 17, side A ...";
 
-// Prints a refusal, with number and place.
-fn refused(rt: &LibcRuntime, refusal: Refusal) -> Result<(), AnyError> {
-    let number = refusal.number();
-    let place = refusal.place();
-    println!(rt, "refused   number {number:>2} place {place}")?;
-    Ok(())
-}
-
-// Prints bytes, in capitals.
-fn show_bytes(rt: &LibcRuntime, bytes: &[u8]) -> Result<(), AnyError> {
-    for byte in bytes {
-        print!(rt, " {byte:02X}")?;
-    }
-    println!(rt, "")?;
-    Ok(())
-}
-
 // Prints one entry of a walk.
-fn show_entry(rt: &LibcRuntime, entry: Entry) -> Result<(), AnyError> {
+fn show_entry(rt: &LibcRuntime, entry: Entry) -> io::Result<()> {
     match entry {
         Entry::Block { place, block } => {
             let number = block.number;
@@ -57,7 +42,7 @@ fn show_entry(rt: &LibcRuntime, entry: Entry) -> Result<(), AnyError> {
 }
 
 // Prints the blocks of a sending, and puts them one behind the other into a payload, from place 2 on.
-fn show_blocks(rt: &LibcRuntime, sending: &Sending, payload: &mut [u8]) -> Result<(), AnyError> {
+fn show_blocks(rt: &LibcRuntime, sending: &Sending, payload: &mut [u8]) -> io::Result<()> {
     let mut at = 2;
     for i in 0..4u8 {
         if usize::from(i) >= sending.parts() {
@@ -65,11 +50,11 @@ fn show_blocks(rt: &LibcRuntime, sending: &Sending, payload: &mut [u8]) -> Resul
         }
         let end = match write_block(sending, i, payload, at) {
             Ok(end) => end,
-            Err(refusal) => return refused(rt, refusal),
+            Err(refusal) => return print_refusal(rt, refusal),
         };
-        print!(rt, "block     part {i} place {at:>2} bytes")?;
         if at <= end && end <= payload.len() {
-            show_bytes(rt, &payload[at..end])?;
+            let bytes = Hex(&payload[at..end]);
+            println!(rt, "block     part {i} place {at:>2} bytes{bytes}")?;
         }
         at = end;
     }
@@ -77,7 +62,7 @@ fn show_blocks(rt: &LibcRuntime, sending: &Sending, payload: &mut [u8]) -> Resul
 }
 
 // Prints the entries of a payload.
-fn show_entries(rt: &LibcRuntime, payload: &[u8]) -> Result<(), AnyError> {
+fn show_entries(rt: &LibcRuntime, payload: &[u8]) -> io::Result<()> {
     for entry in Walk::new(payload) {
         show_entry(rt, entry)?;
     }
@@ -85,15 +70,19 @@ fn show_entries(rt: &LibcRuntime, payload: &[u8]) -> Result<(), AnyError> {
 }
 
 // Cuts a message, writes its blocks, damages one, and walks the payload.
-pub fn show(rt: &LibcRuntime) -> Result<(), AnyError> {
+pub fn show(rt: &LibcRuntime) -> io::Result<()> {
     let sending = match Sending::cut(2, 3, MESSAGE, Room::OneX) {
         Ok(sending) => sending,
-        Err(refusal) => return refused(rt, refusal),
+        Err(refusal) => return print_refusal(rt, refusal),
     };
     let number = sending.number();
     let version = sending.version();
     let parts = sending.parts();
     let length = sending.message().len();
+    println!(
+        rt,
+        "Blocks: a message cut, its blocks written, one damaged, and the payload walked"
+    )?;
     println!(
         rt,
         "sending   number {number} version {version} parts {parts} bytes {length}"

@@ -1,4 +1,7 @@
 // One body of each kind, written and read back, and one that is refused.
+use crate::print::Hex;
+use crate::print::HexDisplay;
+use crate::print::print_refusal;
 use body::Channel;
 use body::Content;
 use body::ContentId;
@@ -18,7 +21,6 @@ use body_writing::ContentIdWritableKind;
 use body_writing::PresentationWritableFormat;
 use body_writing::PresentationWritableKind;
 use body_writing::write_body;
-use refusal::Refusal;
 use std::io;
 
 // The title 10.5240/7791-8534-2C23-9030-8610-5: prefix 5240, then ten bytes, without the check character.
@@ -43,19 +45,10 @@ const AD_ID: &[u8] = b"RUEL0042000H";
 
 const AD_ID_TYPE: u8 = 2;
 
-// Bytes in capitals, on a line of their own.
+// Bytes after a label, on a line of their own.
 fn print_bytes(rt: &LibcRuntime, label: &str, bytes: &[u8]) -> io::Result<()> {
-    print!(rt, "{label}")?;
-    for b in bytes {
-        print!(rt, " {b:02X}")?;
-    }
-    println!(rt, "")
-}
-
-fn print_refusal(rt: &LibcRuntime, refusal: Refusal) -> io::Result<()> {
-    let number = refusal.number();
-    let place = refusal.place();
-    println!(rt, "  refused      {number} at {place}")
+    let shown = Hex(bytes);
+    println!(rt, "{label}{shown}")
 }
 
 // Seconds and milliseconds.
@@ -161,6 +154,10 @@ pub fn show(rt: &LibcRuntime) -> io::Result<()> {
         valid_until: Some(until),
         id: AD_ID,
     };
+    println!(
+        rt,
+        "Bodies: one of each kind, written and read back, and one that is refused"
+    )?;
     write_time(rt, until)?;
     write_content_id(rt, None, Some(channel))?;
     write_content_id(rt, Some(title), None)?;

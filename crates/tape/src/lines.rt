@@ -1,7 +1,8 @@
 // A payload drawn as a line in 1X and in 2X at each depth, roughened by as much as the tolerance allows, and read back by
 // 1X, else 2X; and lines that carry nothing, or are refused.
-use crate::hex::Hex;
-use crate::hex::HexDisplay;
+use crate::print::Hex;
+use crate::print::HexDisplay;
+use crate::print::print_refusal;
 use line::depth::Depth;
 use onex::levels::Levels;
 use onex::one_x::OneX;
@@ -84,14 +85,10 @@ fn report(
         Ok(Some(length)) => {
             let n = if length < 60 { length } else { 60 };
             let shown = Hex(&found[0..n]);
-            println!(rt, "read {length} bytes {shown}")
+            println!(rt, "read {length} bytes{shown}")
         }
         Ok(None) => println!(rt, "no run-in"),
-        Err(refusal) => {
-            let number = refusal.number();
-            let place = refusal.place();
-            println!(rt, "refused {number} at {place}")
-        }
+        Err(refusal) => print_refusal(rt, refusal),
     }
 }
 
