@@ -5,7 +5,9 @@ use Prim.Native.Nat.{ℕ, _+_, _-_, _<_, _≤_}
 use native.Mathlib.Nat.{add-assoc, add-zero}
 use native.Mathlib.Omega.{arith}
 use borrow.Rule.Slice.PartMut.{putMid, midOf}
-use lib.ListN.{length, take, drop, getD}
+use lib.ListN.{length, take, drop, getD, set}
+use lib.Seq.{set-split}
+use native.Mathlib.Numerals.{add-one}
 use Rattle.std.proofs.shelf.Lists.{length-append, length-take-le, length-drop, take-append-drop, take-at, take-append-le, take-take, drop-at, drop-drop, drop-append-le, getD-append-left, getD-append-right, getD-take, getD-drop, places}
 use mathlib.Core.Logic.{_⊎_, inl, inr, ⊎-elim}
 use Rattle.std.proofs.shelf.Tests.{cases-lt}
@@ -96,3 +98,14 @@ laid-three x0 x1 x2 x3 a b c p q r e1 eb e2 ec e3 h =
     let two : x2 ≡ laid x0 a (p ++ q) = laid-more x0 x1 x2 a b p q e1 eb (omega arith) e2 in
     let n : length (p ++ q) ≡ length p + length q = length-append p q in
     laid-more x0 x2 x3 a c (p ++ q) r two (omega arith) h e3 ∙ ap (laid x0 a) (append-assoc p q r)
+
+-- writing one byte is a write of one byte
+pub set-laid : (xs : List ℕ) (a b : ℕ) → a < length xs → set xs a b ≡ laid xs a (b ∷ [])
+unfolding laid
+set-laid xs a b h = set-split xs a b h ∙ ap (λ n. take a xs ++ b ∷ drop n xs) (sym (add-one a))
+
+-- one byte straight after a write
+pub laid-byte : (xs ys : List ℕ) (a : ℕ) (ps : List ℕ) (e b : ℕ) → ys ≡ laid xs a ps → e ≡ a + length ps → e < length xs → set ys e b ≡ laid xs a (ps ++ b ∷ [])
+laid-byte xs ys a ps e b is at h =
+    let l : length ys ≡ length xs = ap length is ∙ length-laid xs a ps (omega arith) in
+    set-laid ys e b (omega arith) ∙ ap (λ t. laid t e (b ∷ [])) is ∙ laid-laid xs a ps e (b ∷ []) at (omega arith)

@@ -1,0 +1,3 @@
+pub mod Gathering
+pub mod Arriving
+pub mod Tables
