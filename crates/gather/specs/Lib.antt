@@ -1,3 +1,6 @@
 pub mod Gathering
 pub mod Arriving
 pub mod Tables
+pub mod Watching
+pub mod Model
+pub mod Keeping

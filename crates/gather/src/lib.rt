@@ -1,1 +1,9 @@
-// placeholder
+// Gathering: the slots of the watched numbers, which keep the parts of messages until all are there.
+// This crate knows nothing of lines, payloads, trays or of what the messages say, and allocates nothing.
+mod slot;
+mod table;
+mod keep;
+mod join;
+mod take;
+pub use slot::Arrival;
+pub use table::Table;

@@ -1,0 +1,3 @@
+pub mod Keeps
+pub mod Joins
+pub mod Ends
