@@ -83,3 +83,14 @@ full-lacks (suc n) k held h e =
 
 pub room-most : (k : ℕ) → room k ≤ 51
 room-most k = grind (arith, tells)
+
+-- whether parts are held doesn't depend on their bytes
+pub full-any : (n : ℕ) (ps : List (Option Part)) (bss css : List (List ℕ)) → full n (held-in ps bss) ≡ full n (held-in ps css)
+full-any n ps bss css = go n
+  where
+    same : (k : ℕ) → isSome (held-in ps bss k) ≡ isSome (held-in ps css k)
+    same k = held-some k (getD ps k None) (getD bss k []) ∙ sym (held-some k (getD ps k None) (getD css k []))
+
+    go : (m : ℕ) → full m (held-in ps bss) ≡ full m (held-in ps css)
+    go zero = same 0
+    go (suc m) = let e = same (suc m) in let more = go m in cc

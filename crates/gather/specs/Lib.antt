@@ -4,3 +4,4 @@ pub mod Tables
 pub mod Watching
 pub mod Model
 pub mod Keeping
+pub mod Serving

@@ -1,5 +1,6 @@
 // Joining the parts of a slot.
 ghost use mathlib.Core.Path.{_≡_};
+ghost use mathlib.Core.List.{[]};
 ghost use Prim.Native.Nat.{ℕ, _+_, _<_, _≤_};
 ghost use lib.ListN.{length};
 ghost use Rattle.crc.specs.Crc.{crc};
@@ -12,14 +13,14 @@ use super::slot::Part;
 
 // The register of the message CRC before the first byte.
 const START: u32 = 0xFFFF_FFFF;
-// The most bytes of a part, and of the last of four.
-const PART_MOST: usize = 51;
-const FOURTH_MOST: usize = 47;
+// The most bytes of a part, and of the last of several.
+pub(crate) const PART_MOST: usize = 51;
+pub(crate) const LAST_MOST: usize = 47;
 
 // Whether every part up to the last is held.
-pub(crate) fn complete(parts: &[Option<Part>; 4], bytes: &[[u8; 51]; 4], last: u8) -> bool
+pub(crate) fn complete(parts: &[Option<Part>; 4], last: u8) -> bool
     requires { ⌜ last ≤ 3 ⌝ }
-    ensures { λ r. ⌜ r ≡ full last (held-in (now (parts .entry)) (now (bytes .entry))) ⌝ }
+    ensures { λ r. ⌜ r ≡ full last (held-in (now (parts .entry)) []) ⌝ }
 {
     for k in 0..last as usize + 1 {
         if parts[k].is_none() {
@@ -33,7 +34,7 @@ pub(crate) fn complete(parts: &[Option<Part>; 4], bytes: &[[u8; 51]; 4], last: u
 fn part_most(k: usize) -> usize
     ensures { λ r. ⌜ r ≡ room k ⌝ }
 {
-    if k == 3 { FOURTH_MOST } else { PART_MOST }
+    if k == 3 { LAST_MOST } else { PART_MOST }
 }
 
 // The bytes of part k, none where it isn't held.

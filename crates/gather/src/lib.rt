@@ -5,5 +5,8 @@ mod table;
 mod keep;
 mod join;
 mod take;
+mod find;
+mod arrive;
+mod held;
 pub use slot::Arrival;
 pub use table::Table;

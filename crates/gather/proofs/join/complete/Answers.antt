@@ -11,10 +11,9 @@ use Rattle.gather.proofs.join.complete.Needs as need
 pub returns-then-is-none : need.returns-then-is-none
 returns-then-is-none c =
     let ps = c .args .parts .now in
-    let bss = c .args .bytes .now in
     let k = c .loop-k .k in
-    sym (full-lacks (c .args .last) k (held-in ps bss) (c .loop-k-test .taken) (held-some k (getD ps k None) (getD bss k []) ∙ c .if-is-none .ensures tt))
+    sym (full-lacks (c .args .last) k (held-in ps []) (c .loop-k-test .taken) (held-some k (getD ps k None) [] ∙ c .if-is-none .ensures tt))
 
 pub returns : need.returns
 returns c =
-    sym (full-all (c .args .last) (held-in (c .args .parts .now) (c .args .bytes .now)) (λ (j : ℕ) (h : j < c .args .last + 1). c .loop-k .inv j (omega (arith, c .loop-k-test .left))))
+    sym (full-all (c .args .last) (held-in (c .args .parts .now) []) (λ (j : ℕ) (h : j < c .args .last + 1). c .loop-k .inv j (omega (arith, c .loop-k-test .left))))
