@@ -5,3 +5,4 @@ pub mod Slots
 pub mod Fits
 pub mod Serves
 pub mod Counts
+pub mod Lists

@@ -76,38 +76,36 @@ absent-more n ws i none here j h e =
     (λ (g : i ≤ j). let z : j ≡ i = omega arith in here (ap (λ (k : ℕ). getD ws k 0) (sym z) ∙ e))
     (cases-lt j i)
 
--- a slot changed in its list, by a block of its number
-module _ (u : ℕ) (xs : List Slot) (i : ℕ) (d s′ : Slot) (within : i < u) (long : u ≤ length xs) (same : s′ .number ≡ getD xs i d .number) where
-  -- the numbers stay
-  pub same-numbers : numbers u (set xs i s′) ≡ numbers u xs
-  same-numbers =
-      sym (take-map (λ (s : Slot). s .number) u (set xs i s′))
-      ∙ ap (take u) (map-set-same (λ (s : Slot). s .number) xs i s′ d same)
-      ∙ take-map (λ (s : Slot). s .number) u xs
+-- the numbers stay where a slot changes but for its number
+pub same-numbers : (u : ℕ) (xs : List Slot) (i : ℕ) (d s′ : Slot) → s′ .number ≡ getD xs i d .number → numbers u (set xs i s′) ≡ numbers u xs
+same-numbers u xs i d s′ same =
+    sym (take-map (λ (s : Slot). s .number) u (set xs i s′))
+    ∙ ap (take u) (map-set-same (λ (s : Slot). s .number) xs i s′ d same)
+    ∙ take-map (λ (s : Slot). s .number) u xs
 
-  module _ (w : ℕ) (first : FirstAt w (numbers u xs) i) where
-    in-numbers : i < length (numbers u xs)
-    in-numbers = let l = length-numbers u xs long in omega arith
+-- the slot of a number that is first found at an index
+module _ (u : ℕ) (xs : List Slot) (i w : ℕ) (within : i < u) (long : u ≤ length xs) (first : FirstAt w (numbers u xs) i) where
+  in-numbers : i < length (numbers u xs)
+  in-numbers = let l = length-numbers u xs long in omega arith
 
-    in-slots : i < length (map model (take u xs))
-    in-slots = let l = length-map (take u xs) model in let l′ = length-take-le u xs long in omega arith
+  in-slots : i < length (map model (take u xs))
+  in-slots = let l = length-map (take u xs) model in let l′ = length-take-le u xs long in omega arith
 
-    -- the slot of the number is the one that was found
-    pub found-slot : table-of (numbers u xs) (map model (take u xs)) w ≡ model (getD xs i d)
-    found-slot =
-        let l = length-take-le u xs long in
-        let at : i < length (take u xs) = omega arith in
-        table-at (numbers u xs) (map model (take u xs)) i w first in-numbers in-slots
-        ∙ getD-map model (take u xs) i d nothing at
-        ∙ ap model (getD-take u xs i d within)
+  pub found-slot : (d : Slot) → table-of (numbers u xs) (map model (take u xs)) w ≡ model (getD xs i d)
+  found-slot d =
+      let l = length-take-le u xs long in
+      let at : i < length (take u xs) = omega arith in
+      table-at (numbers u xs) (map model (take u xs)) i w first in-numbers in-slots
+      ∙ getD-map model (take u xs) i d nothing at
+      ∙ ap model (getD-take u xs i d within)
 
-    pub is-watched : watched (numbers u xs) w ≡ true
-    is-watched = watched-at w (numbers u xs) i in-numbers (first .0)
+  pub is-watched : watched (numbers u xs) w ≡ true
+  is-watched = watched-at w (numbers u xs) i in-numbers (first .0)
 
-    -- the table with the slot changed
-    pub changed : (n : ℕ) → table-of (numbers u (set xs i s′)) (map model (take u (set xs i s′))) n
-        ≡ cond (eqb n w) (model s′) (table-of (numbers u xs) (map model (take u xs)) n)
-    changed n =
-        ap (λ (ws : List ℕ). table-of ws (map model (take u (set xs i s′))) n) same-numbers
-        ∙ ap (λ (ss : List value.Slot). table-of (numbers u xs) ss n) (ap (map model) (take-put u xs i s′) ∙ map-set model (take u xs) i s′)
-        ∙ table-put (numbers u xs) (map model (take u xs)) i w n (model s′) first in-numbers in-slots
+  -- the table with that slot changed
+  pub changed : (d s′ : Slot) → s′ .number ≡ getD xs i d .number → (n : ℕ)
+      → table-of (numbers u (set xs i s′)) (map model (take u (set xs i s′))) n ≡ cond (eqb n w) (model s′) (table-of (numbers u xs) (map model (take u xs)) n)
+  changed d s′ same n =
+      ap (λ (ws : List ℕ). table-of ws (map model (take u (set xs i s′))) n) (same-numbers u xs i d s′ same)
+      ∙ ap (λ (ss : List value.Slot). table-of (numbers u xs) ss n) (ap (map model) (take-put u xs i s′) ∙ map-set model (take u xs) i s′)
+      ∙ table-put (numbers u xs) (map model (take u xs)) i w n (model s′) first in-numbers in-slots

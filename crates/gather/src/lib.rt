@@ -8,5 +8,6 @@ mod take;
 mod find;
 mod arrive;
 mod held;
+mod watch;
 pub use slot::Arrival;
 pub use table::Table;

@@ -25,16 +25,16 @@ returns-in-Some c =
     let out = c .args .out .now in
     let at = c .in-Some .ensures tt in
     let long : u ≤ length xs = omega (arith, self .long, self .few) in
-    let is = is-watched u xs i _ s′ (at .0) long (c .serve .ensures .same) (b .number) (at .1) in
-    let found = found-slot u xs i _ s′ (at .0) long (c .serve .ensures .same) (b .number) (at .1) in
+    let is = is-watched u xs i (b .number) (at .0) long (at .1) in
+    let found = found-slot u xs i (b .number) (at .0) long (at .1) _ in
     let answer = c .serve .ensures .answer ∙ slot-answer (watching self) t b (gathered self) _ is found in
     let after = c .serve .ensures .out ∙ slot-out (watching self) t b (gathered self) _ is found out in
     record {
       answer = answer;
       message = means-reply (watching self) t b (gathered self) _ out _ answer after;
       out = after;
-      next = slot-next (watching self) t b (gathered self) _ is found _ (model s′) (c .serve .ensures .next) (changed u xs i _ s′ (at .0) long (c .serve .ensures .same) (b .number) (at .1));
-      same = same-numbers u xs i _ s′ (at .0) long (c .serve .ensures .same)
+      next = slot-next (watching self) t b (gathered self) _ is found _ (model s′) (c .serve .ensures .next) (changed u xs i (b .number) (at .0) long (at .1) _ s′ (c .serve .ensures .same));
+      same = same-numbers u xs i _ s′ (c .serve .ensures .same)
     }
 
 pub returns-in-None : need.returns-in-None

@@ -20,8 +20,8 @@ returns-in-Some c =
       answer =
         ap Some (c .count .ensures)
         ∙ held-watched (watching self) (gathered self) n _
-        (is-watched (self .used) (self .slots) (c .in-Some .i) _ _ (at .0) long refl n (at .1))
-        (found-slot (self .used) (self .slots) (c .in-Some .i) _ _ (at .0) long refl n (at .1))
+        (is-watched (self .used) (self .slots) (c .in-Some .i) n (at .0) long (at .1))
+        (found-slot (self .used) (self .slots) (c .in-Some .i) n (at .0) long (at .1) _)
     }
 
 pub returns-in-None : need.returns-in-None
