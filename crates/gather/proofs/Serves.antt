@@ -1,11 +1,11 @@
 -- What a table answers to a block, from what the slot of its number answers.
-use mathlib.Core.Path.{_≡_, refl, sym, _∙_, ap, fun-ext}
+use mathlib.Core.Path.{_≡_, refl, sym, _∙_, ap, subst, fun-ext}
 use mathlib.Core.List.{List, [], _∷_, _++_, map}
 use mathlib.Core.Bool.{Bool, cond, true, false, _&&_}
 use Prim.Native.Nat.{ℕ, _<_, _≤_}
 use native.Mathlib.Omega.{arith}
 use lib.Dec.{eqb}
-use lib.ListN.{length, getD, set, take, drop}
+use lib.ListN.{length, getD, set, take, drop, length-append}
 use Rattle.std.proofs.shelf.Lists.{take-at}
 use Rattle.std.proofs.shelf.Tests.{eqb-true}
 use Rattle.sending.specs.Sendings.{Block, Message}
@@ -19,7 +19,7 @@ use Rattle.gather.specs.declared.slot.Arrival.{Arrival}
 use Rattle.gather.specs.declared.slot.Arrival.the-variants.{NotWatched, Unfit, Silent, Faulty}
 use Rattle.gather.specs.Model.{model}
 use Rattle.gather.specs.Keeping.{with-part, ended, ended-out, emptied, fronted}
-use Rattle.gather.specs.Serving.{said, written, meant, reply, arrival, next-table, Absent, FirstAt}
+use Rattle.gather.specs.Serving.{said, written, meant, Short, reply, arrival, next-table, Absent, FirstAt}
 use Rattle.gather.proofs.Slots.{numbers, length-numbers, watched-not, same-numbers, found-slot, is-watched, changed}
 
 -- the message of the parts that are kept
@@ -64,6 +64,22 @@ module _ (watch : List ℕ) (t : ℕ) (b : Block) (table : Table) where
       go true false f r = refl
       go false true f r = refl
       go false false f r = refl
+
+  -- a message fits into the buffer
+  pub fits-out : (r : Arrival) (out after : List ℕ) → r ≡ arrival watch t b table → after ≡ written (reply watch t b table) out → length after ≡ 200 → Short r
+  fits-out r out after e e′ long =
+      subst Short (sym e) (go (watched watch (b .number)) (fits-slot b) (full (b .last) (kept t b (table (b .number)))) (right (b .last) (kept t b (table (b .number)))) (sym (ap length e′) ∙ long))
+    where
+      go : (w q f r : Bool) → length (written (cond q (by-tests (joined-message t b (table (b .number))) w f r) silent) out) ≡ 200
+          → Short (cond w (cond q (said (by-tests (joined-message t b (table (b .number))) w f r)) Unfit) NotWatched)
+      go true true true true l =
+          let x = whole (b .last) (kept t b (table (b .number))) in
+          let n = length-append x (drop (length x) out) in
+          omega arith
+      go true true true false l = tt
+      go true true false r l = tt
+      go true false f r l = tt
+      go false q f r l = tt
 
   -- a number that is watched, whose slot is s
   module _ (s : value.Slot) (is : watched watch (b .number) ≡ true) (at : table (b .number) ≡ s) where

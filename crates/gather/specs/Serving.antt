@@ -1,5 +1,5 @@
 -- What a table answers to each call, and what it is afterwards.
-use Prim.Native.Nat.{ℕ, zero, suc, _+_, _<_}
+use Prim.Native.Nat.{ℕ, zero, suc, _+_, _<_, _≤_}
 use mathlib.Core.Path.{_≡_}
 use mathlib.Core.Bool.{cond}
 use mathlib.Core.List.{List}
@@ -55,6 +55,14 @@ meant b Unfit out = silent
 meant b Silent out = silent
 meant b (Message n) out = handed (record { number = b .number; version = b .version; bytes = take n out })
 meant b Faulty out = faulty
+
+-- a message that is handed over has at most 200 bytes
+abbrev pub Short : Arrival → Type 0
+Short NotWatched = Unit {0}
+Short Unfit = Unit {0}
+Short Silent = Unit {0}
+Short (Message n) = n ≤ 200
+Short Faulty = Unit {0}
 
 module _ (watch : List ℕ) (t : ℕ) (b : Block) (table : value.Table) where
   -- the answer to any block: one that can't be gathered is answered nothing

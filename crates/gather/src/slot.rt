@@ -24,7 +24,7 @@ pub struct Slot {
 }
 
 // What a block came to.
-#[derive(Clone, Copy, PartialEq, Eq, Debug)]
+#[derive(Clone, Copy)]
 pub enum Arrival {
     // its number isn't watched
     NotWatched,

@@ -3,6 +3,7 @@ use mathlib.Core.List.{List}
 use mathlib.Core.Bool.{true, false}
 use Prim.Native.Nat.{ℕ, _<_, _≤_}
 use native.Mathlib.Omega.{arith}
+use borrow.Author.Needs.{needs}
 use lib.ListN.{length}
 use Rattle.sending.specs.Model.{means}
 use Rattle.gather.specs.Gathering.{Answer}
@@ -10,7 +11,7 @@ use Rattle.gather.specs.Arriving.{watched}
 use Rattle.gather.specs.Model.{model, watching, gathered}
 use Rattle.gather.specs.Serving.{reply, written}
 use Rattle.gather.proofs.Slots.{length-numbers, watched-not, same-numbers, found-slot, is-watched, changed}
-use Rattle.gather.proofs.Serves.{means-reply, slot-answer, slot-out, slot-next, absent-answer, absent-reply, absent-next}
+use Rattle.gather.proofs.Serves.{means-reply, fits-out, slot-answer, slot-out, slot-next, absent-answer, absent-reply, absent-next}
 use Rattle.gather.proofs.table.Table.arrive.Needs as need
 
 pub returns-in-Some : need.returns-in-Some
@@ -32,6 +33,7 @@ returns-in-Some c =
     record {
       answer = answer;
       message = means-reply (watching self) t b (gathered self) _ out _ answer after;
+      short = fits-out (watching self) t b (gathered self) _ out _ answer after (search needs);
       out = after;
       next = slot-next (watching self) t b (gathered self) _ is found _ (model s′) (c .serve .ensures .next) (changed u xs i (b .number) (at .0) long (at .1) _ s′ (c .serve .ensures .same));
       same = same-numbers u xs i _ s′ (c .serve .ensures .same)
@@ -49,6 +51,7 @@ returns-in-None c =
     record {
       answer = absent-answer (watching self) t b (gathered self) is;
       message = silent;
+      short = tt;
       out = ap (λ (a : Answer). written a (c .args .out .now)) silent;
       next = absent-next (watching self) t b (gathered self) is;
       same = refl
