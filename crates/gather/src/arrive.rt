@@ -4,9 +4,9 @@ ghost use Prim.Native.Nat.{ℕ};
 ghost use Rattle.sending.specs.Model.{means};
 ghost use Rattle.gather.specs.Model.{watching, gathered};
 ghost use Rattle.gather.specs.Serving.{arrival, reply, written, meant, Short, next-table};
-use sending::Block;
 use super::slot::Arrival;
 use super::table::Table;
+use sending::Block;
 
 impl Table {
     // Takes a block that was read at a frame. A message that it completes is written at the front of `out`.

@@ -7,14 +7,15 @@ ghost use Rattle.crc.specs.Crc.{crc};
 ghost use Rattle.gather.specs.Gathering.{body-of, full, whole};
 ghost use Rattle.gather.specs.Model.{room, part-in, held-in};
 ghost use Rattle.gather.specs.Keeping.{fronted, carries, verdict, verdict-out};
-use crc::crc32_more;
 use super::slot::Arrival;
 use super::slot::Part;
+use crc::crc32_more;
 
 // The register of the message CRC before the first byte.
 const START: u32 = 0xFFFF_FFFF;
 // The most bytes of a part, and of the last of several.
 pub(crate) const PART_MOST: usize = 51;
+
 pub(crate) const LAST_MOST: usize = 47;
 
 // Whether every part up to the last is held.
@@ -94,7 +95,12 @@ fn carries(part: Option<Part>, crc: u32) -> bool
 }
 
 // Joins parts that are all held, unless they are several and fail the message CRC.
-pub(crate) fn judge(parts: &[Option<Part>; 4], bytes: &[[u8; 51]; 4], last: u8, out: &mut [u8]) -> Arrival
+pub(crate) fn judge(
+    parts: &[Option<Part>; 4],
+    bytes: &[[u8; 51]; 4],
+    last: u8,
+    out: &mut [u8],
+) -> Arrival
     requires few { ⌜ last ≤ 3 ⌝ }
     requires room { ⌜ 200 ≤ length (now out) ⌝ }
     ensures answer { λ r. ⌜ r ≡ verdict last (held-in (now (parts .entry)) (now (bytes .entry))) ⌝ }
@@ -103,5 +109,7 @@ pub(crate) fn judge(parts: &[Option<Part>; 4], bytes: &[[u8; 51]; 4], last: u8, 
     if last != 0 && !carries(parts[last as usize], parts_crc(parts, bytes, last)) {
         return Arrival::Faulty;
     }
-    Arrival::Message { length: join_parts(parts, bytes, last, out) }
+    Arrival::Message {
+        length: join_parts(parts, bytes, last, out),
+    }
 }

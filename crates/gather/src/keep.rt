@@ -7,10 +7,10 @@ ghost use Rattle.std.specs.declared.option.Option.the-variants.{Some};
 ghost use Rattle.sending.specs.Model.{means};
 ghost use Rattle.gather.specs.Model.{room, model};
 ghost use Rattle.gather.specs.Keeping.{fresh-part, renewed, noted, few-parts, four-parts, with-part};
-use sending::Block;
 use super::slot::Part;
 use super::slot::Slot;
 use super::slot::State;
+use sending::Block;
 
 // A part is dropped once it is older than this, in frames.
 const AGE_MOST: u64 = 255;
@@ -20,7 +20,11 @@ fn still_fresh(part: Option<Part>, frame: u64) -> Option<Part>
     ensures { λ r. ⌜ r ≡ fresh-part frame part ⌝ }
 {
     match part {
-        Some(p) => if p.frame < frame && frame - p.frame > AGE_MOST { None } else { Some(p) },
+        Some(p) => if p.frame < frame && frame - p.frame > AGE_MOST {
+            None
+        } else {
+            Some(p)
+        },
         None => None,
     }
 }
@@ -73,8 +77,19 @@ impl Slot {
         ensures bytes { λ _. ⌜ now (self .exit) .bytes ≡ now (self .entry) .bytes ⌝ }
     {
         match (&mut self.state, block) {
-            (&mut State::Gathering { version, last, ref mut parts }, b) if version == b.version && last == b.last => drop_old(parts, frame),
-            (state, b) => *state = State::Gathering { version: b.version, last: b.last, parts: [None; 4] },
+            (
+                &mut State::Gathering {
+                    version,
+                    last,
+                    ref mut parts,
+                },
+                b,
+            ) if version == b.version && last == b.last => drop_old(parts, frame),
+            (state, b) => *state = State::Gathering {
+                version: b.version,
+                last: b.last,
+                parts: [None; 4],
+            },
         }
     }
 
@@ -89,7 +104,14 @@ impl Slot {
     {
         let k = block.part as usize;
         self.renew(block, frame);
-        self.state.note(k, Part { size: block.body.len(), frame, check: block.check });
+        self.state.note(
+            k,
+            Part {
+                size: block.body.len(),
+                frame,
+                check: block.check,
+            },
+        );
         put_front(&mut self.bytes[k], block.body);
     }
 }

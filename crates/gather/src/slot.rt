@@ -12,7 +12,11 @@ pub struct Part {
 #[derive(Clone, Copy)]
 pub enum State {
     Empty,
-    Gathering { version: u8, last: u8, parts: [Option<Part>; 4] },
+    Gathering {
+        version: u8,
+        last: u8,
+        parts: [Option<Part>; 4],
+    },
 }
 
 // What is gathered for one watched number. The bytes of part k lie at the front of bytes[k], where the state holds it.

@@ -8,14 +8,14 @@ ghost use Rattle.gather.specs.Model.{room, model};
 ghost use Rattle.gather.specs.Watching.{fits-slot};
 ghost use Rattle.gather.specs.declared.slot.Arrival.the-variants.{Unfit};
 ghost use Rattle.gather.specs.Keeping.{few-parts, with-part, ended, ended-out, emptied};
-use sending::Block;
-use super::join::complete;
-use super::join::judge;
 use super::join::LAST_MOST;
 use super::join::PART_MOST;
+use super::join::complete;
+use super::join::judge;
 use super::slot::Arrival;
 use super::slot::Slot;
 use super::slot::State;
+use sending::Block;
 
 // The number of the last of four parts.
 const LAST_PART: u8 = 3;

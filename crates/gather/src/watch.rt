@@ -6,10 +6,10 @@ ghost use Rattle.gather.specs.Gathering.{nothing};
 ghost use Rattle.gather.specs.Watching.{wrong-at, watch-fault};
 ghost use Rattle.gather.specs.Model.{model, watching, gathered};
 ghost use Rattle.gather.specs.Serving.{empty, shown, opened};
-use refusal::Refusal;
 use super::slot::Slot;
 use super::slot::State;
 use super::table::Table;
+use refusal::Refusal;
 
 // The most numbers that are watched.
 const WATCH_MOST: usize = 8;
@@ -54,7 +54,11 @@ impl Slot {
         ensures number { λ r. ⌜ r .number ≡ number ⌝ }
         ensures next { λ r. ⌜ model r ≡ nothing ⌝ }
     {
-        Slot { number, state: State::Empty, bytes: [[0; 51]; 4] }
+        Slot {
+            number,
+            state: State::Empty,
+            bytes: [[0; 51]; 4],
+        }
     }
 
     // Drops every part.
@@ -77,7 +81,10 @@ impl Table {
         for i in 0..watch.len() {
             slots[i] = Slot::new(watch[i]);
         }
-        Table { slots, used: watch.len() }
+        Table {
+            slots,
+            used: watch.len(),
+        }
     }
 
     // A table that watches the numbers and holds nothing. Refused is an empty list, the first number that is 0 or stands

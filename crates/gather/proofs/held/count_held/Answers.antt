@@ -14,8 +14,9 @@ loop-k-again c =
     let ps = c .args .parts .now in
     let k = c .loop-k .k in
     elim (c .if-is-some .came) [
-      then-is-some w ↦ (let more = count-more ps k true (w .if-is-some .ensures tt) in (omega (arith, w .count-is), omega (arith, w .count-is)))
-    | else-is-some w ↦ (let more = count-more ps k false (w .if-is-some .ensures tt) in (omega (arith, w .count-is), omega (arith, w .count-is))) ]
+      | then-is-some w ↦ (let more = count-more ps k true (w .if-is-some .ensures tt) in (omega (arith, w .count-is), omega (arith, w .count-is)))
+      | else-is-some w ↦ (let more = count-more ps k false (w .if-is-some .ensures tt) in (omega (arith, w .count-is), omega (arith, w .count-is)))
+    ]
 
 pub returns : need.returns
 returns c =

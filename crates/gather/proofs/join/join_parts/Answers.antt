@@ -19,12 +19,13 @@ loop-k-again c =
     let more = ap (λ (b : List ℕ). w ++ b) (c .part-body-body .ensures .value) ∙ sym (front-more k held) in
     let short = c .part-body-body .ensures .short in
     let most = room-most k in
-    let old = c .loop-k .inv .2 in
-    (ap (λ (n : ℕ). n + length body) (c .loop-k .inv .0) ∙ sym (length-append w body) ∙ ap length more,
-     ap (putMid at (at + length body - at) (c .loop-k .out)) (c .copy-from-slice .ensures .after)
-     ∙ write-more w body (c .loop-k .out) (c .args .out .now) at (c .loop-k .inv .0) (c .loop-k .inv .1)
-     ∙ ap (λ (b : List ℕ). b ++ drop (at + length body) (c .args .out .now)) more,
-     omega arith)
+    let old = c .loop-k .inv .2 in (
+      ap (λ (n : ℕ). n + length body) (c .loop-k .inv .0) ∙ sym (length-append w body) ∙ ap length more,
+      ap (putMid at (at + length body - at) (c .loop-k .out)) (c .copy-from-slice .ensures .after)
+          ∙ write-more w body (c .loop-k .out) (c .args .out .now) at (c .loop-k .inv .0) (c .loop-k .inv .1)
+          ∙ ap (λ (b : List ℕ). b ++ drop (at + length body) (c .args .out .now)) more,
+      omega arith,
+    )
 
 pub returns : need.returns
 returns c =
@@ -34,5 +35,5 @@ returns c =
     let n = c .loop-k .inv .0 in
     record {
       answer = n ∙ ap length e;
-      out = c .loop-k .inv .1 ∙ ap (λ (m : ℕ). front (c .loop-k .k) held ++ drop m (c .args .out .now)) n ∙ ap (λ (w : List ℕ). fronted w (c .args .out .now)) e
+      out = c .loop-k .inv .1 ∙ ap (λ (m : ℕ). front (c .loop-k .k) held ++ drop m (c .args .out .now)) n ∙ ap (λ (w : List ℕ). fronted w (c .args .out .now)) e;
     }

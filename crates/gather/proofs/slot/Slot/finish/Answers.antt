@@ -14,7 +14,7 @@ returns-in-Gathering c =
       answer = c .judge-arrival .ensures .answer ∙ sym (ends (old .state) (old .bytes) (g .version) (g .last) (g .parts) true (g .is) full);
       out = c .judge-arrival .ensures .out ∙ sym (ends-out (old .state) (old .bytes) (g .version) (g .last) (g .parts) true (g .is) full (c .args .out .now));
       next = sym (empties (old .state) (old .bytes) (g .version) (g .last) (g .parts) true (g .is) full);
-      same = refl
+      same = refl;
     }
 
 pub returns-in-rest : need.returns-in-rest
@@ -26,5 +26,5 @@ returns-in-rest c =
       answer = sym (ends (old .state) (old .bytes) (g .version) (g .last) (g .parts) false (g .is) full);
       out = sym (ends-out (old .state) (old .bytes) (g .version) (g .last) (g .parts) false (g .is) full (c .args .out .now));
       next = sym (empties (old .state) (old .bytes) (g .version) (g .last) (g .parts) false (g .is) full);
-      same = refl
+      same = refl;
     }

@@ -23,6 +23,6 @@ returns c =
       number = c .renew .ensures .number;
       few = few-kept t b (old .state) _ _ _ (c .pre .few) (c .renew .ensures .state) (c .note .ensures .state);
       parts =
-        kept-is t b bss (old .state) _ _ _ _ within four refl (c .pre .fits) (c .put-front .ensures) (c .renew .ensures .state) (c .note .ensures .four) (c .note .ensures .state)
-        ∙ ap (λ (z : List (List ℕ)). with-part t b (slot-in (old .state) z)) (c .renew .ensures .bytes)
+          kept-is t b bss (old .state) _ _ _ _ within four refl (c .pre .fits) (c .put-front .ensures) (c .renew .ensures .state) (c .note .ensures .four) (c .note .ensures .state)
+          ∙ ap (λ (z : List (List ℕ)). with-part t b (slot-in (old .state) z)) (c .renew .ensures .bytes);
     }

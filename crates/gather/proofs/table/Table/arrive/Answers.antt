@@ -36,7 +36,7 @@ returns-in-Some c =
       short = fits-out (watching self) t b (gathered self) _ out _ answer after (search needs);
       out = after;
       next = slot-next (watching self) t b (gathered self) _ is found _ (model s′) (c .serve .ensures .next) (changed u xs i (b .number) (at .0) long (at .1) _ s′ (c .serve .ensures .same));
-      same = same-numbers u xs i _ s′ (c .serve .ensures .same)
+      same = same-numbers u xs i _ s′ (c .serve .ensures .same);
     }
 
 pub returns-in-None : need.returns-in-None
@@ -54,5 +54,5 @@ returns-in-None c =
       short = tt;
       out = ap (λ (a : Answer). written a (c .args .out .now)) silent;
       next = absent-next (watching self) t b (gathered self) is;
-      same = refl
+      same = refl;
     }

@@ -12,9 +12,10 @@ loop-i-again c =
     let t = c .loop-i .self in
     let i = c .loop-i .i in
     let s′ = c .clear .last .self in
-    let within : i < length (t .slots) = omega (arith, t .long, c .loop-i-test .taken) in
-    (same-numbers (t .used) (t .slots) i _ s′ (c .clear .ensures .same) ∙ c .loop-i .inv .0,
-     cleared-more (t .slots) i s′ within (c .clear .ensures .next) (c .loop-i .inv .1))
+    let within : i < length (t .slots) = omega (arith, t .long, c .loop-i-test .taken) in (
+      same-numbers (t .used) (t .slots) i _ s′ (c .clear .ensures .same) ∙ c .loop-i .inv .0,
+      cleared-more (t .slots) i s′ within (c .clear .ensures .next) (c .loop-i .inv .1),
+    )
 
 pub returns : need.returns
 returns c =

@@ -18,10 +18,10 @@ returns-in-Some c =
     let long : self .used ≤ length (self .slots) = omega (arith, self .long, self .few) in
     record {
       answer =
-        ap Some (c .count .ensures)
-        ∙ held-watched (watching self) (gathered self) n _
-        (is-watched (self .used) (self .slots) (c .in-Some .i) n (at .0) long (at .1))
-        (found-slot (self .used) (self .slots) (c .in-Some .i) n (at .0) long (at .1) _)
+          ap Some (c .count .ensures)
+          ∙ held-watched (watching self) (gathered self) n _
+          (is-watched (self .used) (self .slots) (c .in-Some .i) n (at .0) long (at .1))
+          (found-slot (self .used) (self .slots) (c .in-Some .i) n (at .0) long (at .1) _);
     }
 
 pub returns-in-None : need.returns-in-None

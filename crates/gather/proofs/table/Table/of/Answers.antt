@@ -14,10 +14,11 @@ loop-i-again c =
     let ws = c .args .watch .now in
     let i = c .loop-i .i in
     let s′ = c .new .result in
-    let within : i < length xs = omega (arith, c .pre, c .loop-i .inv .2, c .loop-i-test .taken) in
-    (numbers-more xs ws i s′ within (c .loop-i-test .taken) (c .new .ensures .number) (c .loop-i .inv .0),
-     cleared-more xs i s′ within (c .new .ensures .next) (c .loop-i .inv .1),
-     length-set xs i s′ ∙ c .loop-i .inv .2)
+    let within : i < length xs = omega (arith, c .pre, c .loop-i .inv .2, c .loop-i-test .taken) in (
+      numbers-more xs ws i s′ within (c .loop-i-test .taken) (c .new .ensures .number) (c .loop-i .inv .0),
+      cleared-more xs i s′ within (c .new .ensures .next) (c .loop-i .inv .1),
+      length-set xs i s′ ∙ c .loop-i .inv .2,
+    )
 
 pub ghost-result : need.ghost-result
 ghost-result c = (c .loop-i .inv .2, (c .pre, tt))
@@ -31,5 +32,5 @@ returns c =
     let most : length ws ≤ i = omega arith in
     record {
       watch = ap (λ (n : ℕ). numbers n xs) (sym all) ∙ c .loop-i .inv .0 ∙ take-all i ws most;
-      next = cleared-all _ xs (length ws) i most (c .loop-i .inv .1)
+      next = cleared-all _ xs (length ws) i most (c .loop-i .inv .1);
     }
