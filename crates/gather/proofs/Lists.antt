@@ -10,13 +10,13 @@ use Rattle.std.specs.Options.{orOther}
 use Rattle.std.specs.declared.option.Option.{Option}
 use Rattle.std.specs.declared.option.Option.the-variants.{Some, None}
 use Rattle.std.proofs.shelf.Lists.{map-set, map-push, take-map, take-take, take-more, take-more-set, take-replicate, replicate-more, getD-take, length-take-le}
-use Rattle.std.proofs.shelf.Tests.{or-left, or-right, or-from, eq-eqb, ne-eqb, lt-ltb, le-ltb, cases-lt}
+use Rattle.std.proofs.shelf.Tests.{true≢false, or-left, or-right, or-from, eq-eqb, ne-eqb, lt-ltb, le-ltb, cases-lt}
 use mathlib.Core.Logic.{_⊎_, inl, inr, ⊎-elim}
 use Rattle.gather.specs.Gathering as value
 use Rattle.gather.specs.Gathering.{nothing}
 use Rattle.gather.specs.Arriving.{watched}
 use Rattle.gather.specs.Tables.{table-of}
-use Rattle.gather.specs.Watching.{wrong-at, wrong-from, watch-fault}
+use Rattle.gather.specs.Watching.{wrong-at, wrong-from, watch-fault, Watchable}
 use Rattle.gather.specs.declared.slot.Slot.{Slot}
 use Rattle.gather.specs.Model.{model}
 use Rattle.gather.specs.Serving.{Absent, empty}
@@ -89,6 +89,36 @@ module _ (ws : List ℕ) where
       never l =
           let h : length ws ≡ 0 → ⊥ = λ z. omega arith in
           some (wrong-from ws 0 (length ws)) (ap (λ (z : Bool). orOther (wrong-from ws 0 (length ws)) (cond z (Some 8) None)) (sym (lt-ltb 8 (length ws) l)) ∙ sym (fault-rest h) ∙ e)
+
+  none-wrong : (n i : ℕ) → wrong-from ws i n ≡ None → (k : ℕ) → k < n → wrong-at ws (i + k) ≡ false
+  none-wrong zero i e k h = absurd (omega arith)
+  none-wrong (suc n) i e k h = go (wrong-at ws i) refl e (none-wrong n (i + 1)) k h
+    where
+      go : (b : Bool) → wrong-at ws i ≡ b → cond b (Some i) (wrong-from ws (i + 1) n) ≡ None → (wrong-from ws (i + 1) n ≡ None → (j : ℕ) → j < n → wrong-at ws (i + 1 + j) ≡ false)
+          → (k : ℕ) → k < suc n → wrong-at ws (i + k) ≡ false
+      go true b e more k h = let z : _≡_ {A = ℕ} 0 1 = cc in absurd (omega arith)
+      go false b e more zero h = let z : i + 0 ≡ i = omega arith in ap (wrong-at ws) z ∙ b
+      go false b e more (suc k) h = let z : i + suc k ≡ i + 1 + k = omega arith in ap (wrong-at ws) z ∙ more e k (omega arith)
+
+  right-from : (o p : Option ℕ) → orOther o p ≡ None → o ≡ None
+  right-from None p e = refl
+  right-from (Some x) p e = e
+
+  -- a list that isn't refused can be watched
+  pub fault-watchable : watch-fault ws ≡ None → Watchable ws
+  fault-watchable e = record { one-to-eight = (omega (arith, some), fault-few e); none-zero = zeros; none-twice = twice }
+    where
+      some : length ws ≡ 0 → ⊥
+      some z = let two : _≡_ {A = Option ℕ} (Some 0) None = sym (fault-empty z) ∙ e in let k : _≡_ {A = ℕ} 0 1 = cc in omega arith
+
+      right : (i : ℕ) → i < length ws → wrong-at ws i ≡ false
+      right i h = let z : i ≡ 0 + i = omega arith in ap (wrong-at ws) z ∙ none-wrong (length ws) 0 (right-from (wrong-from ws 0 (length ws)) (cond (ltb 8 (length ws)) (Some 8) None) (sym (fault-rest some) ∙ e)) i h
+
+      zeros : (i : ℕ) → i < length ws → getD ws i 0 ≡ 0 → ⊥
+      zeros i h z = true≢false (sym (wrong-zero ws i z) ∙ right i h)
+
+      twice : (i j : ℕ) → j < i → i < length ws → getD ws j 0 ≡ getD ws i 0 → ⊥
+      twice i j l h z = true≢false (sym (wrong-earlier ws i j l (omega arith) z) ∙ right i h)
 
 -- a table in whose slots nothing is held
 table-none : (ws : List ℕ) (u n : ℕ) → table-of ws (replicate u nothing) n ≡ nothing

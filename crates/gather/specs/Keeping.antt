@@ -9,12 +9,13 @@ use Rattle.std.specs.declared.option.Option.{Option}
 use Rattle.std.specs.declared.option.Option.the-variants.{Some, None}
 use Rattle.sending.specs.Sendings.{Block}
 use Rattle.gather.specs.Gathering as value
+use Rattle.gather.specs.Watching.{fits-slot}
 use Rattle.gather.specs.Gathering.{Slot, nothing, kept, full, right, whole, agrees}
 use Rattle.gather.specs.declared.slot.Part.{Part}
 use Rattle.gather.specs.declared.slot.State.{State}
 use Rattle.gather.specs.declared.slot.State.the-variants.{Empty, Gathering}
 use Rattle.gather.specs.declared.slot.Arrival.{Arrival}
-use Rattle.gather.specs.declared.slot.Arrival.the-variants.{Silent, Message, Faulty}
+use Rattle.gather.specs.declared.slot.Arrival.the-variants.{Unfit, Silent, Message, Faulty}
 
 -- the part, unless it is more than 255 frames old
 abbrev pub fresh-part : ℕ → Option Part → Option Part
@@ -74,3 +75,15 @@ ended-out s out = cond (full (s .last) (s .held)) (verdict-out (s .last) (s .hel
 -- the slot then
 abbrev pub emptied : Slot → Slot
 emptied s = cond (full (s .last) (s .held)) nothing s
+
+-- what a slot answers to any block
+abbrev pub served : ℕ → Block → Slot → Arrival
+served t b s = cond (fits-slot b) (ended (with-part t b s)) Unfit
+
+-- the buffer then
+abbrev pub served-out : ℕ → Block → Slot → List ℕ → List ℕ
+served-out t b s out = cond (fits-slot b) (ended-out (with-part t b s) out) out
+
+-- the slot then: a block that can't be gathered changes nothing
+abbrev pub served-slot : ℕ → Block → Slot → Slot
+served-slot t b s = cond (fits-slot b) (emptied (with-part t b s)) s

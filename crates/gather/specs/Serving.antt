@@ -15,7 +15,7 @@ use Rattle.sending.specs.Sendings.{Block}
 use Rattle.gather.specs.Gathering.{Part, Slot, nothing, Answer, silent, handed, faulty}
 use Rattle.gather.specs.Arriving as value
 use Rattle.gather.specs.Arriving.{watched, arrive, answer-to}
-use Rattle.gather.specs.Watching.{watch-fault, fits-slot}
+use Rattle.gather.specs.Watching.{Watchable, watch-fault, fits-slot}
 use Rattle.gather.specs.Model.{watching, gathered}
 use Rattle.gather.specs.Keeping.{fronted}
 use Rattle.gather.specs.declared.slot.Arrival.{Arrival}
@@ -35,6 +35,11 @@ shown (Err e) = Err e
 abbrev pub opened : List ℕ → Option ℕ → Result (List ℕ × value.Table) Refusal
 opened watch (Some place) = Err (WatchList place)
 opened watch None = Ok (watch, empty)
+
+-- a list for which there is a table can be watched
+abbrev pub Taken : List ℕ → Result Table Refusal → Type 0
+Taken watch (Ok t) = Watchable watch
+Taken watch (Err e) = Unit {0}
 
 -- an answer as the code gives it, with a message's length
 abbrev pub said : Answer → Arrival

@@ -1,5 +1,6 @@
 -- Which lists of numbers can be watched, and which blocks can be gathered.
-use Prim.Native.Nat.{ℕ, zero, suc, _+_}
+use Prim.Native.Nat.{ℕ, zero, suc, _+_, _<_, _≤_}
+use mathlib.Core.Path.{_≡_}
 use mathlib.Core.Bool.{Bool, cond, not, _&&_, _||_}
 use mathlib.Core.List.{List}
 use lib.Dec.{eqb, ltb, leb}
@@ -23,6 +24,12 @@ wrong-from watch i (suc n) = cond (wrong-at watch i) (Some i) (wrong-from watch 
 unfoldable pub watch-fault : List ℕ → Option ℕ
 watch-fault watch =
     cond (eqb (length watch) 0) (Some 0) (orOther (wrong-from watch 0 (length watch)) (cond (ltb 8 (length watch)) (Some 8) None))
+
+-- a list that can be watched: one to eight numbers, none of them 0, and none twice
+pub record Watchable (watch : List ℕ) : Type 0 where
+  pub one-to-eight : (1 ≤ length watch) × (length watch ≤ 8)
+  pub none-zero : (i : ℕ) → i < length watch → getD watch i 0 ≡ 0 → ⊥
+  pub none-twice : (i j : ℕ) → j < i → i < length watch → getD watch j 0 ≡ getD watch i 0 → ⊥
 
 -- the most bytes that the part of a block may have: the last of several has the message CRC behind it
 abbrev pub most-bytes : ℕ → ℕ → ℕ

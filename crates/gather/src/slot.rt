@@ -32,7 +32,7 @@ pub struct Slot {
 pub enum Arrival {
     // its number isn't watched
     NotWatched,
-    // it is longer than a block can be, or of more parts
+    // no block that is read has such parts: more than four, one above the last, or a body too long
     Unfit,
     // parts are still awaited
     Silent,

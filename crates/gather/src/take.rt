@@ -1,13 +1,11 @@
 // What a slot answers to a block.
 ghost use mathlib.Core.Path.{_≡_};
-ghost use mathlib.Core.Bool.{cond};
 ghost use Prim.Native.Nat.{ℕ, _≤_};
 ghost use lib.ListN.{length};
 ghost use Rattle.sending.specs.Model.{means};
 ghost use Rattle.gather.specs.Model.{room, model};
 ghost use Rattle.gather.specs.Watching.{fits-slot};
-ghost use Rattle.gather.specs.declared.slot.Arrival.the-variants.{Unfit};
-ghost use Rattle.gather.specs.Keeping.{few-parts, with-part, ended, ended-out, emptied};
+ghost use Rattle.gather.specs.Keeping.{few-parts, with-part, ended, ended-out, emptied, served, served-out, served-slot};
 use super::join::LAST_MOST;
 use super::join::PART_MOST;
 use super::join::complete;
@@ -74,9 +72,9 @@ impl Slot {
     // Takes a block at a frame, unless it can't be gathered.
     pub(crate) fn serve(&mut self, block: Block<'_>, frame: u64, out: &mut [u8]) -> Arrival
         requires room { ⌜ 200 ≤ length (now out) ⌝ }
-        ensures answer { λ r. ⌜ r ≡ cond (fits-slot (means (block .entry))) (ended (with-part frame (means (block .entry)) (model (now (self .entry))))) Unfit ⌝ }
-        ensures out { λ _. ⌜ now (out .exit) ≡ cond (fits-slot (means (block .entry))) (ended-out (with-part frame (means (block .entry)) (model (now (self .entry)))) (now (out .entry))) (now (out .entry)) ⌝ }
-        ensures next { λ _. ⌜ model (now (self .exit)) ≡ cond (fits-slot (means (block .entry))) (emptied (with-part frame (means (block .entry)) (model (now (self .entry))))) (model (now (self .entry))) ⌝ }
+        ensures answer { λ r. ⌜ r ≡ served frame (means (block .entry)) (model (now (self .entry))) ⌝ }
+        ensures out { λ _. ⌜ now (out .exit) ≡ served-out frame (means (block .entry)) (model (now (self .entry))) (now (out .entry)) ⌝ }
+        ensures next { λ _. ⌜ model (now (self .exit)) ≡ served-slot frame (means (block .entry)) (model (now (self .entry))) ⌝ }
         ensures same { λ _. ⌜ now (self .exit) .number ≡ now (self .entry) .number ⌝ }
     {
         if !fits(block) {

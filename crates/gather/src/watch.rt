@@ -5,7 +5,7 @@ ghost use lib.ListN.{length};
 ghost use Rattle.gather.specs.Gathering.{nothing};
 ghost use Rattle.gather.specs.Watching.{wrong-at, watch-fault};
 ghost use Rattle.gather.specs.Model.{model, watching, gathered};
-ghost use Rattle.gather.specs.Serving.{empty, shown, opened};
+ghost use Rattle.gather.specs.Serving.{empty, shown, opened, Taken};
 use super::slot::Slot;
 use super::slot::State;
 use super::table::Table;
@@ -91,6 +91,7 @@ impl Table {
     // earlier, and a ninth number.
     pub fn new(watch: &[u8]) -> Result<Table, Refusal>
         ensures answer { λ r. ⌜ shown r ≡ opened (now (watch .entry)) (watch-fault (now (watch .entry))) ⌝ }
+        ensures list_can_be_watched { λ r. ⌜ Taken (now (watch .entry)) r ⌝ }
     {
         match fault_of(watch) {
             Some(place) => Err(Refusal::WatchList(place)),
