@@ -1,1 +1,3 @@
 pub mod Lays
+pub mod Steps
+pub mod Firsts
