@@ -8,19 +8,19 @@ use Rattle.std.specs.declared.result.Result.{Result}
 use Rattle.std.specs.declared.result.Result.the-variants.{Ok}
 use Rattle.refusal.specs.declared.Refusal.{Refusal}
 use Rattle.sending.specs.Sendings.{Message}
-use Rattle.tray.specs.declared.tray.Tray.{Tray}
 use Rattle.tray.specs.Trays.{Fault, IsTray, tray-bytes}
-use Rattle.tray.specs.Reading.{Item, tray-items, messages-in, faults-in}
+use Rattle.tray.specs.Reading.{tray-items, messages-in, faults-in, entries-in}
 
 -- a tray t is read as these messages and faults, with their places, and takes at most 1630 bytes
-pub record ReadAs (t : List ℕ) (ms : List Message) (fs : List Fault) (answer : Result (List Item) Refusal) : Type 0 where
-  pub entries : answer ≡ Ok (tray-items ms fs)
+pub record ReadAs (t : List ℕ) (ms : List Message) (fs : List Fault) (answer : Result (List ℕ) Refusal) : Type 0 where
+  pub accepted : answer ≡ Ok t
+  pub entries : entries-in t ≡ tray-items ms fs
   pub messages : messages-in t ≡ ms
   pub faults : faults-in t ≡ fs
   pub short : length t ≤ 1630
 
 -- what is written as a tray is read back as exactly what was written
-abbrev pub Reads-back : List ℕ → Result (List Item) Refusal → Type 0
+abbrev pub Reads-back : List ℕ → Result (List ℕ) Refusal → Type 0
 Reads-back t answer = (ms : List Message) (fs : List Fault) → IsTray ms fs → t ≡ tray-bytes ms fs → ReadAs t ms fs answer
 
 -- the bytes t are the tray of one list of messages and one list of faults
@@ -30,5 +30,5 @@ pub record OneReading (t : List ℕ) : Type 0 where
   pub one : (ms : List Message) (fs : List Fault) → IsTray ms fs → t ≡ tray-bytes ms fs → (ms ≡ messages-in t) × (fs ≡ faults-in t)
 
 -- an accepted tray has one reading
-abbrev pub Has-one-reading : List ℕ → Result Tray Refusal → Type 0
-Has-one-reading t r = made r (λ _. OneReading t)
+abbrev pub Has-one-reading : List ℕ → Result (List ℕ) Refusal → Type 0
+Has-one-reading t answer = made answer (λ _. OneReading t)

@@ -139,3 +139,7 @@ messages-in t = right-only (tray-fault t) (messages-of (message-count t) (drop 1
 -- the faults of a tray, none where it isn't one
 abbrev pub faults-in : List ℕ → List Fault
 faults-in t = right-only (tray-fault t) (faults-of (fault-count t) (drop (section-place t + 1) t))
+
+-- the entries of a tray, messages before faults, none where it isn't one
+abbrev pub entries-in : List ℕ → List Item
+entries-in t = tray-items (messages-in t) (faults-in t)

@@ -77,11 +77,11 @@ Adds before at m after =
     (old : List ℕ) (ms : List Message) → before ≡ holding old ms → at ≡ behind ms → length (m .bytes) ≤ 200 → behind (ms ++ m ∷ []) ≤ length old → after ≡ holding old (ms ++ m ∷ [])
 
 -- a finished tray: its bytes, and behind them what was there
-pub record Whole (old : List ℕ) (ms : List Message) (fs : List Fault) (used : Option ℕ) (after : List ℕ) : Type 0 where
-  pub used : used ≡ Some (length (tray-bytes ms fs))
+pub record Whole (old : List ℕ) (ms : List Message) (fs : List Fault) (end : Option ℕ) (after : List ℕ) : Type 0 where
+  pub used : end ≡ Some (length (tray-bytes ms fs))
   pub tray : after ≡ tray-bytes ms fs ++ drop (length (tray-bytes ms fs)) old
 
 -- messages that stand in a tray and are counted are finished with these faults to a tray
 abbrev pub Finishes : List ℕ → ℕ → ℕ → List Fault → Option ℕ → List ℕ → Type 0
-Finishes before count at fs used after =
-    (old : List ℕ) (ms : List Message) → before ≡ holding old ms → count ≡ length ms → at ≡ behind ms → length (tray-bytes ms fs) ≤ length old → Whole old ms fs used after
+Finishes before count at fs end after =
+    (old : List ℕ) (ms : List Message) → before ≡ holding old ms → count ≡ length ms → at ≡ behind ms → length (tray-bytes ms fs) ≤ length old → Whole old ms fs end after

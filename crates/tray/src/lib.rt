@@ -16,5 +16,6 @@ pub use put::finish;
 pub use put::put_fault;
 pub use put::put_faults;
 pub use put::put_message;
+pub use tray::Entries;
 pub use tray::Tray;
-pub use walk::TrayIterator;
+pub use walk::EntriesIterator;

@@ -2,11 +2,10 @@
 ghost use mathlib.Core.Path.{_≡_};
 ghost use Prim.Native.Nat.{_+_, _≤_};
 ghost use lib.ListN.{length, drop};
-ghost use Rattle.std.specs.Vec.{made};
 ghost use Rattle.refusal.specs.declared.Refusal.the-variants as refused;
 ghost use Rattle.bytes.specs.Places.{unless, told};
-ghost use Rattle.tray.specs.Reading.{message, fault, message-of, fault-of, message-size, tray-fault, tray-items, messages-in, faults-in};
-ghost use Rattle.tray.specs.Model.{item, ahead, entries-left, Steps};
+ghost use Rattle.tray.specs.Reading.{message, fault, message-of, fault-of, message-size, tray-fault, entries-in};
+ghost use Rattle.tray.specs.Model.{item, sections-said, told-sections, bytes-said, ahead, entries-left, Steps};
 ghost use Rattle.tray.specs.Laws.{Reads-back, Has-one-reading};
 use refusal::Refusal;
 use super::entry::Entry;
@@ -16,24 +15,47 @@ use super::read::faults_end;
 use super::read::faults_told;
 use super::read::messages_end;
 use super::read::messages_told;
+use super::tray::Entries;
+use super::tray::Sections;
 use super::tray::Tray;
+
+// The sections of a tray. Refused at its first wrong byte.
+fn sections(bytes: &[u8]) -> Result<Sections, Refusal>
+    ensures { λ r. ⌜ told sections-said r ≡ unless refused.Tray (tray-fault (now (bytes .entry))) (told-sections (now (bytes .entry))) ⌝ }
+{
+    let messages = messages_told(bytes)?;
+    let place = messages_end(bytes, messages)?;
+    let faults = faults_told(bytes, messages, place)?;
+    let end = faults_end(bytes, place + 1, faults)?;
+    if end < bytes.len() {
+        return Err(Refusal::Tray(end));
+    }
+    Ok(Sections { messages, place, faults })
+}
 
 impl<'a> Tray<'a> {
     // The tray that these bytes, the used part alone, are. Refused at the first wrong byte, or at the length where one lacks.
     pub fn open(bytes: &'a [u8]) -> Result<Tray<'a>, Refusal>
-        ensures answer { λ r. ⌜ told ahead r ≡ unless refused.Tray (tray-fault (now (bytes .entry))) (tray-items (messages-in (now (bytes .entry))) (faults-in (now (bytes .entry)))) ⌝ }
-        ensures tray { λ r. ⌜ made r (λ w. now (w .bytes) ≡ now (bytes .entry)) ⌝ }
-        ensures reads_back { λ r. ⌜ Reads-back (now (bytes .entry)) (told ahead r) ⌝ }
-        ensures has_one_reading { λ r. ⌜ Has-one-reading (now (bytes .entry)) r ⌝ }
+        ensures answer { λ r. ⌜ told bytes-said r ≡ unless refused.Tray (tray-fault (now (bytes .entry))) (now (bytes .entry)) ⌝ }
+        ensures reads_back { λ r. ⌜ Reads-back (now (bytes .entry)) (told bytes-said r) ⌝ }
+        ensures has_one_reading { λ r. ⌜ Has-one-reading (now (bytes .entry)) (told bytes-said r) ⌝ }
     {
-        let messages = messages_told(bytes)?;
-        let section = messages_end(bytes, messages)?;
-        let faults = faults_told(bytes, messages, section)?;
-        let end = faults_end(bytes, section + 1, faults)?;
-        if end < bytes.len() {
-            return Err(Refusal::Tray(end));
+        match sections(bytes) {
+            Ok(_) => Ok(Tray { bytes }),
+            Err(refusal) => Err(refusal),
         }
-        Ok(Tray { bytes, messages, front: 1, faults, back: section + 1 })
+    }
+
+    // Its entries, in order.
+    pub fn entries(&self) -> Entries<'a>
+        ensures bytes { λ r. ⌜ now (r .bytes) ≡ now (now (self .entry) .bytes) ⌝ }
+        ensures entries { λ r. ⌜ ahead r ≡ entries-in (now (now (self .entry) .bytes)) ⌝ }
+    {
+        let bytes = self.bytes;
+        match sections(bytes) {
+            Ok(s) => Entries { bytes, messages: s.messages, front: 1, faults: s.faults, back: s.place + 1 },
+            Err(_) => Entries { bytes, messages: 0, front: 1, faults: 0, back: 1 },
+        }
     }
 }
 
@@ -42,13 +64,13 @@ fn message_at<'a>(tray: &'a [u8], place: usize) -> Entry<'a>
     requires { ⌜ place + message-size (drop place (now tray)) ≤ length (now tray) ⌝ }
     ensures { λ r. ⌜ item r ≡ message place (message-of (drop place (now (tray .entry)))) ⌝ }
 {
-    let own = place + HEAD;
-    let size = tray[place + 2] as usize;
+    let rest = &tray[place..];
+    let size = rest[2] as usize;
     Entry::Message {
         place,
-        number: tray[place],
-        version: tray[place + 1],
-        bytes: &tray[own..own + size],
+        number: rest[0],
+        version: rest[1],
+        bytes: &rest[HEAD..HEAD + size],
     }
 }
 
@@ -57,16 +79,17 @@ fn fault_at<'a>(tray: &'a [u8], place: usize) -> Entry<'a>
     requires { ⌜ place + 4 ≤ length (now tray) ⌝ }
     ensures { λ r. ⌜ item r ≡ fault place (fault-of (drop place (now (tray .entry)))) ⌝ }
 {
+    let rest = &tray[place..];
     Entry::Fault {
         place,
-        layer: tray[place],
-        cause: tray[place + 1],
-        number: tray[place + 2],
-        at: tray[place + 3],
+        layer: rest[0],
+        cause: rest[1],
+        number: rest[2],
+        at: rest[3],
     }
 }
 
-pub impl<'a> Iterator for Tray<'a> as TrayIterator {
+pub impl<'a> Iterator for Entries<'a> as EntriesIterator {
     type Item = Entry<'a>;
 
     ghost steps = { Steps };
@@ -79,14 +102,14 @@ pub impl<'a> Iterator for Tray<'a> as TrayIterator {
         let tray = self.bytes;
         if self.messages > 0 {
             let place = self.front;
-            self.messages -= 1;
             self.front = place + HEAD + tray[place + 2] as usize;
+            self.messages -= 1;
             return Some(message_at(tray, place));
         }
         if self.faults > 0 {
             let place = self.back;
-            self.faults -= 1;
             self.back = place + FAULT;
+            self.faults -= 1;
             return Some(fault_at(tray, place));
         }
         None
