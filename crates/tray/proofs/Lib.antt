@@ -1,2 +1,5 @@
 pub mod Writings
 pub mod Rows
+pub mod Ahead
+pub mod Backs
+pub mod Openings

@@ -127,6 +127,10 @@ fault-items p (f ∷ fs) = fault p f ∷ fault-items (p + 4) fs
 abbrev pub tray-items : List Message → List Fault → List Item
 tray-items ms fs = message-items 1 ms ++ fault-items (2 + length (joined message-bytes ms)) fs
 
+-- the message at place p of a tray
+abbrev pub message-there : ℕ → List ℕ → Message
+message-there p t = record { number = getD t p 0; version = getD t (p + 1) 0; bytes = take (getD t (p + 2) 0) (drop (p + 3) t) }
+
 -- a list, or nothing where a place is wrong
 abbrev pub right-only : {A : Type 0} → Option ℕ → List A → List A
 right-only None xs = xs

@@ -1,10 +1,13 @@
 // Opening a tray, and going from entry to entry.
+ghost use mathlib.Core.Bool.{false};
+ghost use mathlib.Core.List.{[]};
 ghost use mathlib.Core.Path.{_≡_};
 ghost use Prim.Native.Nat.{_+_, _≤_};
-ghost use lib.ListN.{length, drop};
+ghost use lib.ListN.{length, drop, getD};
+ghost use Rattle.std.specs.Options.{isSome};
 ghost use Rattle.refusal.specs.declared.Refusal.the-variants as refused;
 ghost use Rattle.bytes.specs.Places.{unless, told};
-ghost use Rattle.tray.specs.Reading.{message, fault, message-of, fault-of, message-size, tray-fault, entries-in};
+ghost use Rattle.tray.specs.Reading.{message, fault, message-there, fault-of, tray-fault, entries-in};
 ghost use Rattle.tray.specs.Model.{item, sections-said, told-sections, bytes-said, ahead, entries-left, Steps};
 ghost use Rattle.tray.specs.Laws.{Reads-back, Has-one-reading};
 use refusal::Refusal;
@@ -53,25 +56,60 @@ impl<'a> Tray<'a> {
     {
         let bytes = self.bytes;
         match sections(bytes) {
-            Ok(s) => Entries { bytes, messages: s.messages, front: 1, faults: s.faults, back: s.place + 1 },
-            Err(_) => Entries { bytes, messages: 0, front: 1, faults: 0, back: 1 },
+            Ok(s) => entries_of(bytes, s),
+            Err(_) => no_entries(bytes),
         }
     }
 }
 
+// The entries of a tray with these sections.
+fn entries_of<'a>(bytes: &'a [u8], s: Sections) -> Entries<'a>
+    requires right { ⌜ isSome (tray-fault (now bytes)) ≡ false ⌝ }
+    requires sections { ⌜ sections-said s ≡ told-sections (now bytes) ⌝ }
+    ensures bytes { λ r. ⌜ now (r .bytes) ≡ now (bytes .entry) ⌝ }
+    ensures entries { λ r. ⌜ ahead r ≡ entries-in (now (bytes .entry)) ⌝ }
+{
+    let back = s.place + 1;
+    Entries { bytes, messages: s.messages, front: 1, faults: s.faults, back }
+}
+
+// No entries.
+fn no_entries<'a>(bytes: &'a [u8]) -> Entries<'a>
+    ensures bytes { λ r. ⌜ now (r .bytes) ≡ now (bytes .entry) ⌝ }
+    ensures entries { λ r. ⌜ ahead r ≡ [] ⌝ }
+{
+    Entries { bytes, messages: 0, front: 1, faults: 0, back: 1 }
+}
+
+// Where the message at a place ends.
+fn message_end(tray: &[u8], place: usize) -> usize
+    requires { ⌜ place + (3 + getD (now tray) (place + 2) 0) ≤ length (now tray) ⌝ }
+    ensures { λ r. ⌜ r ≡ place + (3 + getD (now (tray .entry)) (place + 2) 0) ⌝ }
+{
+    place + (HEAD + tray[place + 2] as usize)
+}
+
 // The message at a place, as a part of the tray.
 fn message_at<'a>(tray: &'a [u8], place: usize) -> Entry<'a>
-    requires { ⌜ place + message-size (drop place (now tray)) ≤ length (now tray) ⌝ }
-    ensures { λ r. ⌜ item r ≡ message place (message-of (drop place (now (tray .entry)))) ⌝ }
+    requires { ⌜ place + (3 + getD (now tray) (place + 2) 0) ≤ length (now tray) ⌝ }
+    ensures { λ r. ⌜ item r ≡ message place (message-there place (now (tray .entry))) ⌝ }
 {
-    let rest = &tray[place..];
-    let size = rest[2] as usize;
+    let size = tray[place + 2] as usize;
     Entry::Message {
         place,
-        number: rest[0],
-        version: rest[1],
-        bytes: &rest[HEAD..HEAD + size],
+        number: tray[place],
+        version: tray[place + 1],
+        bytes: &tray[place + HEAD..place + HEAD + size],
     }
+}
+
+// Where the fault at a place ends.
+fn fault_end(tray: &[u8], place: usize) -> usize
+    requires { ⌜ place + 4 ≤ length (now tray) ⌝ }
+    ensures { λ r. ⌜ r ≡ place + 4 ⌝ }
+{
+    let end = place + FAULT;
+    end.min(tray.len())
 }
 
 // The fault at a place.
@@ -102,13 +140,13 @@ pub impl<'a> Iterator for Entries<'a> as EntriesIterator {
         let tray = self.bytes;
         if self.messages > 0 {
             let place = self.front;
-            self.front = place + HEAD + tray[place + 2] as usize;
+            self.front = message_end(tray, place);
             self.messages -= 1;
             return Some(message_at(tray, place));
         }
         if self.faults > 0 {
             let place = self.back;
-            self.back = place + FAULT;
+            self.back = fault_end(tray, place);
             self.faults -= 1;
             return Some(fault_at(tray, place));
         }
