@@ -66,10 +66,10 @@ next-message n p q t some is h =
     }
 
 -- one fault ahead of others
-pub record NextFault (n p : ℕ) (t : List ℕ) : Type 0 where
+pub record NextFault (n p q : ℕ) (t : List ℕ) : Type 0 where
   pub room : p + 4 ≤ length t
-  pub right : isSome (faults-fault (n - 1) (p + 4) (drop (p + 4) t)) ≡ false
-  pub items : fault-items p (faults-of n (drop p t)) ≡ fault p (fault-of (drop p t)) ∷ fault-items (p + 4) (faults-of (n - 1) (drop (p + 4) t))
+  pub right : isSome (faults-fault (n - 1) q (drop q t)) ≡ false
+  pub items : fault-items p (faults-of n (drop p t)) ≡ fault p (fault-of (drop p t)) ∷ fault-items q (faults-of (n - 1) (drop q t))
 
 first-fault : (n p : ℕ) (bs : List ℕ) → 0 < n → faults-fault n p bs ≡ None → fault-fault bs ≡ None
 unfolding faults-fault
@@ -80,8 +80,8 @@ faults-step : (n p : ℕ) (t : List ℕ) → fault-items p (faults-of (suc n) (d
 unfolding faults-of
 faults-step n p t = ap (λ l. fault p (fault-of (drop p t)) ∷ fault-items (p + 4) (faults-of n l)) (drop-drop 4 p t)
 
-pub next-fault : (n p : ℕ) (t : List ℕ) → 0 < n → isSome (faults-fault n p (drop p t)) ≡ false → NextFault n p t
-next-fault n p t some h =
+pub next-fault : (n p q : ℕ) (t : List ℕ) → 0 < n → q ≡ p + 4 → isSome (faults-fault n p (drop p t)) ≡ false → NextFault n p q t
+next-fault n p q t some is h =
     let bs = drop p t in
     let none = none-from (faults-fault n p bs) h in
     let right = first-fault n p bs some none in
@@ -90,8 +90,8 @@ next-fault n p t some h =
     let more : faults-fault n p bs ≡ faults-fault (n - 1) (p + 4) (drop (p + 4) t) = ap (λ m. faults-fault m p bs) (sym zeroth) ∙ rest-more n 0 p t some right ∙ (let e : n - (0 + 1) ≡ n - 1 = omega arith in ap (λ m. faults-fault m (p + 4) (drop (p + 4) t)) e) in
     record {
       room = omega (arith, fault-room bs right, length-drop p t);
-      right = none-to _ (sym more ∙ none);
-      items = ap (λ m. fault-items p (faults-of m bs)) (sym one) ∙ faults-step (n - 1) p t
+      right = none-to _ (ap (λ m. faults-fault (n - 1) m (drop m t)) is ∙ sym more ∙ none);
+      items = ap (λ m. fault-items p (faults-of m bs)) (sym one) ∙ faults-step (n - 1) p t ∙ ap (λ m. fault p (fault-of bs) ∷ fault-items m (faults-of (n - 1) (drop m t))) (sym is)
     }
 
 -- no entry is left

@@ -3,3 +3,4 @@ pub mod Rows
 pub mod Ahead
 pub mod Backs
 pub mod Openings
+pub mod Begins
