@@ -62,7 +62,7 @@ next-message n p q t some is h =
     record {
       room = omega (arith, message-room bs right, length-drop p t);
       right = none-to _ (sym more ∙ none);
-      items = ap (λ m. message-items p (messages-of m bs)) (sym one) ∙ items-more (n - 1) p q t size right
+      items = ap (λ m. message-items p (messages-of m bs)) (sym one) ∙ items-more (n - 1) p q t size right;
     }
 
 -- one fault ahead of others
@@ -91,7 +91,7 @@ next-fault n p q t some is h =
     record {
       room = omega (arith, fault-room bs right, length-drop p t);
       right = none-to _ (ap (λ m. faults-fault (n - 1) m (drop m t)) is ∙ sym more ∙ none);
-      items = ap (λ m. fault-items p (faults-of m bs)) (sym one) ∙ faults-step (n - 1) p t ∙ ap (λ m. fault p (fault-of bs) ∷ fault-items m (faults-of (n - 1) (drop m t))) (sym is)
+      items = ap (λ m. fault-items p (faults-of m bs)) (sym one) ∙ faults-step (n - 1) p t ∙ ap (λ m. fault p (fault-of bs) ∷ fault-items m (faults-of (n - 1) (drop m t))) (sym is);
     }
 
 -- no entry is left

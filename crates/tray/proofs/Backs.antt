@@ -54,21 +54,19 @@ row-back (m ∷ ms) p rest good =
     let r = row-back ms q rest (good .1) in
     let same : (message-bytes m ++ js) ++ rest ≡ message-bytes m ++ (js ++ rest) = append-assoc (message-bytes m) js rest in
     let over = message-rest m (js ++ rest) in
-    let long : q + length js ≡ p + length (message-bytes m ++ js) = omega (arith, length-append (message-bytes m) js) in
-    (
+    let long : q + length js ≡ p + length (message-bytes m ++ js) = omega (arith, length-append (message-bytes m) js) in (
       ap (messages-fault (suc (length ms)) p) same ∙ messages-more (length ms) p (message-bytes m ++ (js ++ rest)) (good-message m (js ++ rest) (good .0)) ∙ ap (messages-fault (length ms) q) over ∙ r .0,
       ap (messages-end (suc (length ms)) p) same ∙ ap (messages-end (length ms) q) over ∙ r .1 ∙ long,
-      ap (messages-of (suc (length ms))) same ∙ (λ i. message-back m (js ++ rest) i ∷ messages-of (length ms) (over i)) ∙ ap (λ l. m ∷ l) (r .2)
+      ap (messages-of (suc (length ms))) same ∙ (λ i. message-back m (js ++ rest) i ∷ messages-of (length ms) (over i)) ∙ ap (λ l. m ∷ l) (r .2),
     )
 
 faults-back : (fs : List Fault) (p : ℕ) → Every IsFault fs → (faults-fault (length fs) p (joined fault-bytes fs) ≡ None) × (faults-of (length fs) (joined fault-bytes fs) ≡ fs)
 unfolding faults-fault faults-of
 faults-back [] p good = (refl, refl)
 faults-back (f ∷ fs) p good =
-    let r = faults-back fs (p + 4) (good .1) in
-    (
+    let r = faults-back fs (p + 4) (good .1) in (
       faults-more (length fs) p (fault-bytes f ++ joined fault-bytes fs) (good-fault f (joined fault-bytes fs) (good .0)) ∙ r .0,
-      ap (λ l. f ∷ l) (r .1)
+      ap (λ l. f ∷ l) (r .1),
     )
 
 -- ---- a whole tray, written and read
@@ -104,7 +102,7 @@ back ms fs g =
     record {
       right = right;
       messages = ap (λ o. right-only o (messages-of (message-count t) (drop 1 t))) right ∙ r .2;
-      faults = ap (λ o. right-only o (faults-of (fault-count t) (drop (section-place t + 1) t))) right ∙ (λ i. faults-of (counted i) (past i)) ∙ f .1
+      faults = ap (λ o. right-only o (faults-of (fault-count t) (drop (section-place t + 1) t))) right ∙ (λ i. faults-of (counted i) (past i)) ∙ f .1;
     }
 
 -- ---- the most bytes
@@ -153,12 +151,12 @@ fault-stands bs h =
     record {
       cause-stands = grind (arith, tells);
       layer-stands =
-        ⊎-elim
-        (λ (e : getD bs 0 0 ≡ 1). inl (e, grind (arith, tells)))
-        (λ (n : getD bs 0 0 ≡ 1 → ⊥). inr (grind (arith, tells), grind (arith, tells)))
-        (cases-eq (getD bs 0 0) 1);
+          ⊎-elim
+          (λ (e : getD bs 0 0 ≡ 1). inl (e, grind (arith, tells)))
+          (λ (n : getD bs 0 0 ≡ 1 → ⊥). inr (grind (arith, tells), grind (arith, tells)))
+          (cases-eq (getD bs 0 0) 1);
       number-stands = grind (arith, tells);
-      place-stands = (grind (arith, tells), grind (arith, tells))
+      place-stands = (grind (arith, tells), grind (arith, tells));
     }
 
 -- what bytes in which n messages are right are made of
@@ -185,7 +183,7 @@ messages-made (suc n) p bs h =
       split = message-split bs right ∙ ap (λ l. message-bytes m ++ l) (r .split) ∙ sym (append-assoc (message-bytes m) js (r .rest));
       end = r .end ∙ omega (arith, length-append (message-bytes m) js);
       count = ap suc (r .count);
-      stand = (message-stands bs right, r .stand)
+      stand = (message-stands bs right, r .stand);
     }
 
 record Faults (n : ℕ) (bs : List ℕ) : Type 0 where
@@ -207,7 +205,7 @@ faults-made (suc n) p bs h =
       rest = r .rest;
       split = fault-split bs right ∙ ap (λ l. fault-bytes f ++ l) (r .split);
       count = ap suc (r .count);
-      stand = (fault-stands bs right, r .stand)
+      stand = (fault-stands bs right, r .stand);
     }
 
 some : (t : List ℕ) → 1 ≤ length t → t ≡ getD t 0 0 ∷ drop 1 t
@@ -255,9 +253,9 @@ made-of t right =
       within = within;
       bytes = whole ∙ (λ i. tray-bytes (sym im i) (sym if i));
       stands =
-        subst (λ (l : List Message). IsTray l (faults-in t)) (sym im)
-        (subst (λ (l : List Fault). IsTray ms l) (sym if)
-        (record { eight-messages = omega (arith, m .count); nine-entries = omega (arith, m .count, f .count); messages-stand = m .stand; faults-stand = f .stand }))
+          subst (λ (l : List Message). IsTray l (faults-in t)) (sym im)
+          (subst (λ (l : List Fault). IsTray ms l) (sym if)
+          (record { eight-messages = omega (arith, m .count); nine-entries = omega (arith, m .count, f .count); messages-stand = m .stand; faults-stand = f .stand }));
     }
 
 -- ---- the laws
@@ -269,7 +267,7 @@ read-as ms fs g =
       entries = (λ i. tray-items (b .messages i) (b .faults i));
       messages = b .messages;
       faults = b .faults;
-      short = short ms fs g
+      short = short ms fs g;
     }
 
 pub reads-back : (t : List ℕ) (answer : Result (List ℕ) Refusal) → answer ≡ unless Tray (tray-fault t) t → Reads-back t answer
@@ -283,7 +281,7 @@ one-reading t right =
     record {
       stands = m .stands;
       bytes = m .bytes;
-      one = λ ms fs g e. let b = back ms fs g in (sym (ap messages-in e ∙ b .messages), sym (ap faults-in e ∙ b .faults))
+      one = λ ms fs g e. let b = back ms fs g in (sym (ap messages-in e ∙ b .messages), sym (ap faults-in e ∙ b .faults));
     }
 
 pub has-one-reading : (t : List ℕ) (answer : Result (List ℕ) Refusal) → answer ≡ unless Tray (tray-fault t) t → Has-one-reading t answer

@@ -36,5 +36,5 @@ begun t n q k h e =
     record {
       messages = none-to _ (ap (λ i. messages-fault i 1 (drop 1 t)) a ∙ p .messages);
       faults = none-to _ ((λ i. faults-fault (d i) (b i + 1) (drop (b i + 1) t)) ∙ p .faults);
-      items = (λ i. message-items 1 (messages-of (a i) (drop 1 t)) ++ fault-items (b i + 1) (faults-of (d i) (drop (b i + 1) t))) ∙ (λ i. message-items 1 (im i) ++ fault-items (place i) (if i))
+      items = (λ i. message-items 1 (messages-of (a i) (drop 1 t)) ++ fault-items (b i + 1) (faults-of (d i) (drop (b i + 1) t))) ∙ (λ i. message-items 1 (im i) ++ fault-items (place i) (if i));
     }

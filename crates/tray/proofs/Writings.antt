@@ -43,7 +43,7 @@ faults-more t now from at i items f d lt place room so-far is =
     let fs = map fault-said (take i items) in
     let size : length (joined fault-bytes fs) ≡ 4 * i = faults-length fs ∙ ap (λ n. 4 * n) (length-map (take i items) fault-said ∙ length-take-le i items (omega arith)) in
     let more : joined fault-bytes fs ++ fault-bytes (fault-said f) ≡ joined fault-bytes (map fault-said (take (i + 1) items)) =
-        joined-more fault-bytes [] fs (fault-said f) ∙ ap (joined fault-bytes) (sym (map-push fault-said (take i items) f) ∙ ap (λ x. map fault-said (take i items ++ x ∷ [])) is ∙ ap (map fault-said) (sym (take-more items i d lt))) in
+    joined-more fault-bytes [] fs (fault-said f) ∙ ap (joined fault-bytes) (sym (map-push fault-said (take i items) f) ∙ ap (λ x. map fault-said (take i items ++ x ∷ [])) is ∙ ap (map fault-said) (sym (take-more items i d lt))) in
     ap (λ l. laid l at (fault-bytes (fault-said f))) so-far ∙ laid-laid t from (joined fault-bytes fs) at (fault-bytes (fault-said f)) (omega arith) (omega arith) ∙ ap (laid t from) more
 
 -- a message written behind others stands behind them
@@ -78,7 +78,7 @@ finishes before count at fs end after e a old ms is counted place room =
     let both = ap (λ t. laid t at s) first ∙ laid-laid old 0 (length ms ∷ js) at s (omega arith) (omega arith) in
     record {
       used = e ∙ cond-false (finish-unfit fs at (length before)) _ _ fit ∙ ap Some (sym used);
-      tray = a ∙ cond-false (finish-unfit fs at (length before)) _ _ fit ∙ both ∙ front-laid old (tray-bytes ms fs)
+      tray = a ∙ cond-false (finish-unfit fs at (length before)) _ _ fit ∙ both ∙ front-laid old (tray-bytes ms fs);
     }
 
 -- where a tray is finished, the section is written behind the new count
@@ -88,8 +88,7 @@ finish-fits t count at fs some room =
     let long = length-set t 0 count in
     let one = set-laid t 0 count (omega arith) in
     let fit : finish-unfit fs at (length t) ≡ false = or-from (eqb at 0) _ (ne-eqb at 0 some) (le-ltb _ _ (omega arith)) in
-    let has : no-room at (fault-section fs) (length (set t 0 count)) ≡ false = le-ltb _ _ (omega arith) in
-    (
+    let has : no-room at (fault-section fs) (length (set t 0 count)) ≡ false = le-ltb _ _ (omega arith) in (
       cond-false (no-room at (fault-section fs) (length (set t 0 count))) _ _ has ∙ sym (cond-false (finish-unfit fs at (length t)) _ _ fit),
-      cond-false (no-room at (fault-section fs) (length (set t 0 count))) _ _ has ∙ ap (λ l. laid l at (fault-section fs)) one ∙ sym (cond-false (finish-unfit fs at (length t)) _ _ fit)
+      cond-false (no-room at (fault-section fs) (length (set t 0 count))) _ _ has ∙ ap (λ l. laid l at (fault-section fs)) one ∙ sym (cond-false (finish-unfit fs at (length t)) _ _ fit),
     )

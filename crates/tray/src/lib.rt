@@ -8,6 +8,7 @@ mod put;
 mod read;
 mod tray;
 mod walk;
+
 pub use entry::Entry;
 pub use fault::Fault;
 pub use fault::Faults;

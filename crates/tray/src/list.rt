@@ -14,8 +14,16 @@ impl Faults {
     pub fn new() -> Self
         ensures faults { λ r. ⌜ fault-list r ≡ [] ⌝ }
     {
-        let none = Fault { layer: 0, cause: 0, number: 0, place: 0 };
-        Faults { items: [none; 9], count: 0 }
+        let none = Fault {
+            layer: 0,
+            cause: 0,
+            number: 0,
+            place: 0,
+        };
+        Faults {
+            items: [none; 9],
+            count: 0,
+        }
     }
 
     // One more fault behind the others; a tenth is not kept. Answers whether it is kept.

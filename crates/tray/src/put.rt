@@ -25,7 +25,13 @@ fn lay(tray: &mut [u8], at: usize, bytes: &[u8]) -> usize
 }
 
 // Writes a message at a place, and answers where it ends.
-pub fn put_message(tray: &mut [u8], at: usize, number: u8, version: u8, bytes: &[u8]) -> Option<usize>
+pub fn put_message(
+    tray: &mut [u8],
+    at: usize,
+    number: u8,
+    version: u8,
+    bytes: &[u8],
+) -> Option<usize>
     ensures answer { λ r. ⌜ r ≡ message-end (record { number = number; version = version; bytes = now (bytes .entry) }) at (length (now (tray .entry))) ⌝ }
     ensures tray { λ _. ⌜ now (tray .exit) ≡ message-put (record { number = number; version = version; bytes = now (bytes .entry) }) at (now (tray .entry)) ⌝ }
     ensures stands_behind { λ _. ⌜ Adds (now (tray .entry)) at (record { number = number; version = version; bytes = now (bytes .entry) }) (now (tray .exit)) ⌝ }
@@ -46,7 +52,11 @@ pub fn put_fault(tray: &mut [u8], at: usize, fault: Fault) -> Option<usize>
     if at > tray.len() || tray.len() - at < FAULT {
         return None;
     }
-    Some(lay(tray, at, &[fault.layer, fault.cause, fault.number, fault.place]))
+    Some(lay(
+        tray,
+        at,
+        &[fault.layer, fault.cause, fault.number, fault.place],
+    ))
 }
 
 // Writes the faults one behind the other, and answers where they end.
@@ -58,7 +68,11 @@ fn lay_faults(tray: &mut [u8], from: usize, faults: &Faults) -> usize
     let mut at = from;
     for i in 0..faults.count {
         let fault = faults.items[i];
-        at = lay(tray, at, &[fault.layer, fault.cause, fault.number, fault.place]);
+        at = lay(
+            tray,
+            at,
+            &[fault.layer, fault.cause, fault.number, fault.place],
+        );
     }
     at
 }

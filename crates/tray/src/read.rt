@@ -6,7 +6,6 @@ ghost use Rattle.std.specs.Vec.{made};
 ghost use Rattle.refusal.specs.declared.Refusal.the-variants.{Tray};
 ghost use Rattle.bytes.specs.Places.{unless};
 ghost use Rattle.tray.specs.Reading.{message-fault, fault-fault, most-cause, messages-fault, messages-end, faults-fault, count-fault, section-fault, rest-fault, message-count};
-use refusal::Refusal;
 use super::limits::BLOCK;
 use super::limits::BLOCK_CAUSES;
 use super::limits::ENTRIES_MOST;
@@ -14,11 +13,12 @@ use super::limits::FAULT;
 use super::limits::HEAD;
 use super::limits::LENGTH_MOST;
 use super::limits::MESSAGE;
-use super::limits::MESSAGES_MOST;
 use super::limits::MESSAGE_CAUSES;
+use super::limits::MESSAGES_MOST;
 use super::limits::PLACE_LEAST;
 use super::limits::PLACE_MOST;
 use super::limits::VERSION_MOST;
+use refusal::Refusal;
 
 // The first wrong byte of the message at the front of these bytes.
 fn message_fault(rest: &[u8]) -> Option<usize>
@@ -44,7 +44,11 @@ fn message_fault(rest: &[u8]) -> Option<usize>
 fn most_cause(layer: u8) -> u8
     ensures { λ r. ⌜ r ≡ most-cause layer ⌝ }
 {
-    if layer == BLOCK { BLOCK_CAUSES } else { MESSAGE_CAUSES }
+    if layer == BLOCK {
+        BLOCK_CAUSES
+    } else {
+        MESSAGE_CAUSES
+    }
 }
 
 // The first wrong byte of the fault at the front of these bytes.

@@ -10,7 +10,6 @@ ghost use Rattle.bytes.specs.Places.{unless, told};
 ghost use Rattle.tray.specs.Reading.{message, fault, message-there, fault-of, tray-fault, entries-in};
 ghost use Rattle.tray.specs.Model.{item, sections-said, told-sections, bytes-said, ahead, entries-left, Steps};
 ghost use Rattle.tray.specs.Laws.{Reads-back, Has-one-reading};
-use refusal::Refusal;
 use super::entry::Entry;
 use super::limits::FAULT;
 use super::limits::HEAD;
@@ -21,6 +20,7 @@ use super::read::messages_told;
 use super::tray::Entries;
 use super::tray::Sections;
 use super::tray::Tray;
+use refusal::Refusal;
 
 // The sections of a tray. Refused at its first wrong byte.
 fn sections(bytes: &[u8]) -> Result<Sections, Refusal>
@@ -33,7 +33,11 @@ fn sections(bytes: &[u8]) -> Result<Sections, Refusal>
     if end < bytes.len() {
         return Err(Refusal::Tray(end));
     }
-    Ok(Sections { messages, place, faults })
+    Ok(Sections {
+        messages,
+        place,
+        faults,
+    })
 }
 
 impl<'a> Tray<'a> {
@@ -70,7 +74,13 @@ fn entries_of<'a>(bytes: &'a [u8], s: Sections) -> Entries<'a>
     ensures entries { λ r. ⌜ ahead r ≡ entries-in (now (bytes .entry)) ⌝ }
 {
     let back = s.place + 1;
-    Entries { bytes, messages: s.messages, front: 1, faults: s.faults, back }
+    Entries {
+        bytes,
+        messages: s.messages,
+        front: 1,
+        faults: s.faults,
+        back,
+    }
 }
 
 // No entries.
@@ -78,7 +88,13 @@ fn no_entries<'a>(bytes: &'a [u8]) -> Entries<'a>
     ensures bytes { λ r. ⌜ now (r .bytes) ≡ now (bytes .entry) ⌝ }
     ensures entries { λ r. ⌜ ahead r ≡ [] ⌝ }
 {
-    Entries { bytes, messages: 0, front: 1, faults: 0, back: 1 }
+    Entries {
+        bytes,
+        messages: 0,
+        front: 1,
+        faults: 0,
+        back: 1,
+    }
 }
 
 // Where the message at a place ends.
@@ -101,15 +117,6 @@ fn message_at<'a>(tray: &'a [u8], place: usize) -> Entry<'a>
         version: tray[place + 1],
         bytes: &tray[place + HEAD..place + HEAD + size],
     }
-}
-
-// Where the fault at a place ends.
-fn fault_end(tray: &[u8], place: usize) -> usize
-    requires { ⌜ place + 4 ≤ length (now tray) ⌝ }
-    ensures { λ r. ⌜ r ≡ place + 4 ⌝ }
-{
-    let end = place + FAULT;
-    end.min(tray.len())
 }
 
 // The fault at a place.
@@ -146,7 +153,7 @@ pub impl<'a> Iterator for Entries<'a> as EntriesIterator {
         }
         if self.faults > 0 {
             let place = self.back;
-            self.back = fault_end(tray, place);
+            self.back = place + FAULT;
             self.faults -= 1;
             return Some(fault_at(tray, place));
         }

@@ -24,5 +24,5 @@ returns c =
     let e : c .loop-i .i ≡ c .args .faults .now .count = omega arith in
     record {
       tray = c .loop-i .inv .1 ∙ ap (λ n. laid (c .args .tray .now) (c .args .from) (joined fault-bytes (map fault-said (take n (c .args .faults .now .items))))) e;
-      end = omega (arith, c .loop-i .inv .0)
+      end = omega (arith, c .loop-i .inv .0);
     }

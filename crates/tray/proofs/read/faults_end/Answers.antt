@@ -31,11 +31,10 @@ pub loop-i-again : need.loop-i-again
 loop-i-again c =
     let t = c .args .tray .now in
     let p = c .loop-i .at in
-    let e = clear (need.at·loop-i-again c .In-rest) in
-    (
+    let e = clear (need.at·loop-i-again c .In-rest) in (
       omega (arith, fault-room (drop p t) e, length-drop p t, c .loop-i .inv .0),
       omega (arith, c .loop-i .inv .1),
-      sym (rest-more (c .args .count) (c .loop-i .-i) p t (omega arith) e) ∙ c .loop-i .inv .2
+      sym (rest-more (c .args .count) (c .loop-i .-i) p t (omega arith) e) ∙ c .loop-i .inv .2,
     )
 
 pub returns : need.returns

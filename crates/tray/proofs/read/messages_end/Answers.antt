@@ -42,11 +42,10 @@ loop-i-again c =
     let t = c .args .tray .now in
     let p = c .loop-i .at in
     let e = clear (need.at·loop-i-again c .In-rest) in
-    let is : p + (3 + getD t (p + 2) 0) ≡ p + message-size (drop p t) = ap (λ n. p + (3 + n)) (sym (getD-drop p t 2 0)) in
-    (
+    let is : p + (3 + getD t (p + 2) 0) ≡ p + message-size (drop p t) = ap (λ n. p + (3 + n)) (sym (getD-drop p t 2 0)) in (
       room (need.at·loop-i-again c .In-rest),
       sym (row-more (c .args .count) (c .loop-i .-i) p _ t (omega arith) is e) ∙ c .loop-i .inv .1,
-      sym (row-end (c .args .count) (c .loop-i .-i) p _ t (omega arith) is) ∙ c .loop-i .inv .2
+      sym (row-end (c .args .count) (c .loop-i .-i) p _ t (omega arith) is) ∙ c .loop-i .inv .2,
     )
 
 pub returns : need.returns
@@ -54,5 +53,5 @@ returns c =
     let end = row-done (c .args .count) (c .loop-i .-i) (c .loop-i .at) (drop (c .loop-i .at) (c .args .tray .now)) (omega arith) in
     record {
       place = done Tray _ _ _ (sym (c .loop-i .inv .1) ∙ end .0) (sym (end .1) ∙ c .loop-i .inv .2);
-      within = c .loop-i .inv .0
+      within = c .loop-i .inv .0;
     }

@@ -2,6 +2,7 @@ use mathlib.Core.Path.{_≡_, refl, sym, ap, _∙_}
 use mathlib.Core.List.{List, [], _∷_, _++_}
 use Prim.Native.Nat.{ℕ, _+_, _-_, _<_, _≤_}
 use native.Mathlib.Omega.{arith}
+use borrow.Author.Needs.{needs}
 use lib.ListN.{length, getD, drop}
 use Rattle.tray.specs.Reading.{Item, message, fault, message-items, fault-items, messages-of, faults-of}
 use Rattle.tray.specs.Model.{item}
@@ -34,15 +35,16 @@ returns-then-self-gt0 c =
     let e = ap (λ l. l ++ others) (n .items) ∙ ap (λ i. i ∷ (behind ++ others)) (ap (message (w .front)) (sym (there (w .front) t)) ∙ sym (c .message-at .ensures)) in
     record { steps = record { same = refl; entry = e }; goes = record { on = λ _. (tt, tt, omega (arith, c .if-self-gt0 .taken)) } }
 
-pub fault-end-self-requires : need.fault-end-self-requires
-fault-end-self-requires c κs =
+pub add-self : need.add-self
+add-self c =
     let w = c .args .self .now in
-    next-fault (w .faults) (w .back) _ (w .bytes .now) (c .if-self-gt0-2 .taken) refl (w .«faults_right») .room
+    let room = next-fault (w .faults) (w .back) _ (w .bytes .now) (c .if-self-gt0-2 .taken) refl (w .«faults_right») .room in
+    search needs
 
 pub ghost-self-then-self-gt0-2 : need.ghost-self-then-self-gt0-2
 ghost-self-then-self-gt0-2 c =
     let w = c .args .self .now in
-    let n = next-fault (w .faults) (w .back) (c .fault-end-self .result) (w .bytes .now) (c .if-self-gt0-2 .taken) (c .fault-end-self .ensures) (w .«faults_right») in
+    let n = next-fault (w .faults) (w .back) (w .back + 4) (w .bytes .now) (c .if-self-gt0-2 .taken) refl (w .«faults_right») in
     (w .«messages_right», (n .right, tt))
 
 pub fault-at-requires : need.fault-at-requires
@@ -54,15 +56,15 @@ pub returns-then-self-gt0-2 : need.returns-then-self-gt0-2
 returns-then-self-gt0-2 c =
     let w = c .args .self .now in
     let t = w .bytes .now in
-    let q = c .fault-end-self .result in
-    let n = next-fault (w .faults) (w .back) q t (c .if-self-gt0-2 .taken) (c .fault-end-self .ensures) (w .«faults_right») in
+    let q = w .back + 4 in
+    let n = next-fault (w .faults) (w .back) q t (c .if-self-gt0-2 .taken) refl (w .«faults_right») in
     let none : w .messages ≡ 0 = omega (arith, c .if-self-gt0 .left) in
     let others : List Item = fault-items q (faults-of (w .faults - 1) (drop q t)) in
     let e =
-        no-messages (w .messages) (w .front) (drop (w .front) t) (fault-items (w .back) (faults-of (w .faults) (drop (w .back) t))) none
-        ∙ n .items
-        ∙ ap (λ i. i ∷ others) (sym (c .fault-at .ensures))
-        ∙ ap (λ l. item (c .fault-at .result) ∷ l) (sym (no-messages (w .messages) (w .front) (drop (w .front) t) others none)) in
+    no-messages (w .messages) (w .front) (drop (w .front) t) (fault-items (w .back) (faults-of (w .faults) (drop (w .back) t))) none
+    ∙ n .items
+    ∙ ap (λ i. i ∷ others) (sym (c .fault-at .ensures))
+    ∙ ap (λ l. item (c .fault-at .result) ∷ l) (sym (no-messages (w .messages) (w .front) (drop (w .front) t) others none)) in
     record { steps = record { same = refl; entry = e }; goes = record { on = λ _. (tt, tt, omega (arith, c .if-self-gt0-2 .taken)) } }
 
 pub returns : need.returns
