@@ -69,7 +69,11 @@ impl Refusal {
             Refusal::Body(index) => index as u64,
             Refusal::WatchList(index) => index as u64,
             Refusal::Tray(index) => index as u64,
-            Refusal::FrameNumber | Refusal::Levels | Refusal::NotOfASending | Refusal::Depth | Refusal::Payload => 0,
+            Refusal::FrameNumber
+            | Refusal::Levels
+            | Refusal::NotOfASending
+            | Refusal::Depth
+            | Refusal::Payload => 0,
         }
     }
 }

@@ -32,7 +32,7 @@ from f (x ∷ xs) i d t (suc k) h =
 
 -- a row has four levels, the first is 16 units, and each next one lies 73 units higher; the unit of row i is 4 ^ i
 abbrev right : ℕ → List ℕ → Bool
-right i row = eqb (length row) 4 && (eqb (getD row 0 0) (16 * 4 ^ i) && even (73 * 4 ^ i) row)
+right i ls = eqb (length ls) 4 && (eqb (getD ls 0 0) (16 * 4 ^ i) && even (73 * 4 ^ i) ls)
 
 whole-table : every right 0 level-rows ≡ true
 whole-table = refl
@@ -48,21 +48,21 @@ unit-is Ten = refl
 unit-is Twelve = refl
 
 -- the rule of a row, by the unit of its depth
-pub record Right (q : ℕ) (row : List ℕ) : Type 0 where
-  pub four : length row ≡ 4
-  pub first : getD row 0 0 ≡ 16 * q
-  pub gaps : even (73 * q) row ≡ true
+pub record Right (q : ℕ) (ls : List ℕ) : Type 0 where
+  pub four : length ls ≡ 4
+  pub first : getD ls 0 0 ≡ 16 * q
+  pub gaps : even (73 * q) ls ≡ true
 
 pub two-right : (d : Depth) → Right (unit-of d) (two-levels d)
 two-right d =
-    let row = two-levels d in
-    let test : right (row-of d) row ≡ true = subst (λ (m : ℕ). right m row ≡ true) (zero-add (row-of d)) (from right level-rows 0 [] whole-table (row-of d) (in-table d)) in
-    let parts = and-parts (eqb (length row) 4) (eqb (getD row 0 0) (16 * 4 ^ row-of d) && even (73 * 4 ^ row-of d) row) test in
-    let more = and-parts (eqb (getD row 0 0) (16 * 4 ^ row-of d)) (even (73 * 4 ^ row-of d) row) (parts .1) in
+    let ls = two-levels d in
+    let test : right (row-of d) ls ≡ true = subst (λ (m : ℕ). right m ls ≡ true) (zero-add (row-of d)) (from right level-rows 0 [] whole-table (row-of d) (in-table d)) in
+    let parts = and-parts (eqb (length ls) 4) (eqb (getD ls 0 0) (16 * 4 ^ row-of d) && even (73 * 4 ^ row-of d) ls) test in
+    let more = and-parts (eqb (getD ls 0 0) (16 * 4 ^ row-of d)) (even (73 * 4 ^ row-of d) ls) (parts .1) in
     record {
-      four = eqb-true (length row) 4 (parts .0);
-      first = eqb-true (getD row 0 0) (16 * 4 ^ row-of d) (more .0) ∙ ap (λ q. 16 * q) (unit-is d);
-      gaps = subst (λ (q : ℕ). even (73 * q) row ≡ true) (unit-is d) (more .1);
+      four = eqb-true (length ls) 4 (parts .0);
+      first = eqb-true (getD ls 0 0) (16 * 4 ^ row-of d) (more .0) ∙ ap (λ q. 16 * q) (unit-is d);
+      gaps = subst (λ (q : ℕ). even (73 * q) ls ≡ true) (unit-is d) (more .1);
     }
 
 -- the rule at each entry

@@ -21,7 +21,7 @@ use Rattle.wire.specs.Wire.{word-bytes, check-bytes, count, head, covered, bloc
 use Rattle.sending.proofs.Rules.{numbers}
 use Rattle.walk.specs.Fields.{word, count-of, part-of, last-of, has-check, cause-at, block-at}
 use Rattle.walk.specs.Entries.{Item, read, scan, entries, blocks-read}
-use Rattle.walk.specs.Laws.{OfASending, payload-of, in-a-row, Reads-sent-blocks}
+use Rattle.walk.specs.Laws.{OfASending, payload-of, placed-from, Reads-sent-blocks}
 use Rattle.walk.proofs.Scans.{sound, scan-end, scan-entry, item-block, past-block}
 
 split-back : (w q r : ℕ) → q ≡ w / 16777216 → r ≡ q → r * 16777216 + w / 65536 % 256 * 65536 + w / 256 % 256 * 256 + w % 256 ≡ w
@@ -171,18 +171,18 @@ zeros : (p z : ℕ) → scan 0 p (replicate z 0) ≡ []
 zeros p zero = scan-end p _ refl
 zeros p (suc z) = scan-end p (replicate (suc z) 0) refl
 
-back : (p : ℕ) (bs : List Block) (z : ℕ) → Every OfASending bs → scan 0 p (joined block-bytes bs ++ replicate z 0) ≡ in-a-row p bs
+back : (p : ℕ) (bs : List Block) (z : ℕ) → Every OfASending bs → scan 0 p (joined block-bytes bs ++ replicate z 0) ≡ placed-from p bs
 back p [] z of = zeros p z
 back p (b ∷ bs) z of =
     ap (scan 0 p) (append-assoc (block-bytes b) (joined block-bytes bs) (replicate z 0))
     ∙ sent-read b (of .0) (joined block-bytes bs ++ replicate z 0) p
     ∙ ap (λ l. read p b ∷ l) (back (p + length (block-bytes b)) bs z (of .1))
 
-row-blocks : (p : ℕ) (bs : List Block) → blocks-read (in-a-row p bs) ≡ bs
+row-blocks : (p : ℕ) (bs : List Block) → blocks-read (placed-from p bs) ≡ bs
 row-blocks p [] = refl
 row-blocks p (b ∷ bs) = ap (λ l. b ∷ l) (row-blocks (p + length (block-bytes b)) bs)
 
 pub reads-sent-blocks : (payload : List ℕ) → Reads-sent-blocks payload (entries payload)
 reads-sent-blocks payload x y bs z of e =
-    let r : entries payload ≡ in-a-row 2 bs = ap entries e ∙ back 2 bs z of in
+    let r : entries payload ≡ placed-from 2 bs = ap entries e ∙ back 2 bs z of in
     (r, ap blocks-read r ∙ row-blocks 2 bs)

@@ -20,13 +20,13 @@ abbrev pub payload-of : ℕ → ℕ → List Block → ℕ → List ℕ
 payload-of x y bs z = x ∷ y ∷ (joined block-bytes bs ++ replicate z 0)
 
 -- the blocks as entries, one behind the other from place p on
-abbrev pub in-a-row : ℕ → List Block → List Item
-in-a-row p [] = []
-in-a-row p (b ∷ bs) = read p b ∷ in-a-row (p + length (block-bytes b)) bs
+abbrev pub placed-from : ℕ → List Block → List Item
+placed-from p [] = []
+placed-from p (b ∷ bs) = read p b ∷ placed-from (p + length (block-bytes b)) bs
 
 -- a payload of blocks of sendings is walked to exactly these blocks, in order, with no fault
 abbrev pub Reads-sent-blocks : List ℕ → List Item → Type 0
-Reads-sent-blocks payload es = (x y : ℕ) (bs : List Block) (z : ℕ) → Every OfASending bs → payload ≡ payload-of x y bs z → (es ≡ in-a-row 2 bs) × (blocks-read es ≡ bs)
+Reads-sent-blocks payload es = (x y : ℕ) (bs : List Block) (z : ℕ) → Every OfASending bs → payload ≡ payload-of x y bs z → (es ≡ placed-from 2 bs) × (blocks-read es ≡ bs)
 
 -- where an entry begins
 abbrev pub place-of : Item → ℕ

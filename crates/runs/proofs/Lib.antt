@@ -1,0 +1,16 @@
+pub mod Basics
+pub mod Sendings
+pub mod Kept
+pub mod Origins
+pub mod Joining
+pub mod Handing
+pub mod Histories
+pub mod Order
+pub mod Rows
+pub mod Numbers
+pub mod Trays
+pub mod Serving
+pub mod Wholes
+pub mod Replies
+pub mod Pasts
+pub mod Cases

@@ -1,0 +1,5 @@
+pub mod Histories
+pub mod Sightings
+pub mod Pasts
+pub mod Reaching
+pub mod Promises
