@@ -32,10 +32,28 @@ fn wrong_at(at: usize, byte: u8) -> Result<(), Fail> {
 
 #[test]
 fn wrong_bytes() -> Result<(), Fail> {
-    for (at, byte) in [(0usize, 9u8), (1, 0), (2, 16), (3, 201), (6, 9), (7, 0), (7, 3), (8, 0)] {
+    for (at, byte) in [
+        (0usize, 9u8),
+        (1, 0),
+        (2, 16),
+        (3, 201),
+        (6, 9),
+        (7, 0),
+        (7, 3),
+        (8, 0),
+    ] {
         wrong_at(at, byte)?;
     }
-    for (at, byte) in [(8usize, 5u8), (9, 0), (10, 1), (10, 60), (12, 0), (12, 2), (13, 0), (14, 60)] {
+    for (at, byte) in [
+        (8usize, 5u8),
+        (9, 0),
+        (10, 1),
+        (10, 60),
+        (12, 0),
+        (12, 2),
+        (13, 0),
+        (14, 60),
+    ] {
         wrong_at(at, byte)?;
     }
     check_eq(wrong(&right()), None)
@@ -54,11 +72,36 @@ fn bytes_lacking_or_left_over() -> Result<(), Fail> {
 // The next entry as numbers: its place, then its fields; of a message the length and the first byte.
 fn told(entries: &mut Entries) -> [usize; 5] {
     match entries.next() {
-        Some(Entry::Message { place, number, version, bytes }) => {
-            let first = if bytes.is_empty() { 0 } else { bytes[0] as usize };
+        Some(
+            Entry::Message {
+                place,
+                number,
+                version,
+                bytes,
+            },
+        ) => {
+            let first = if bytes.is_empty() {
+                0
+            } else {
+                bytes[0] as usize
+            };
             [place, number as usize, version as usize, bytes.len(), first]
         }
-        Some(Entry::Fault { place, layer, cause, number, at }) => [place, layer as usize, cause as usize, number as usize, at as usize],
+        Some(
+            Entry::Fault {
+                place,
+                layer,
+                cause,
+                number,
+                at,
+            },
+        ) => [
+            place,
+            layer as usize,
+            cause as usize,
+            number as usize,
+            at as usize,
+        ],
         None => [0; 5],
     }
 }

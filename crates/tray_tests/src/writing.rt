@@ -9,8 +9,18 @@ use tray::put_message;
 
 fn two_faults() -> Faults {
     let mut faults = Faults::new();
-    let _first = faults.push(Fault { layer: 1, cause: 4, number: 9, place: 2 });
-    let _second = faults.push(Fault { layer: 2, cause: 1, number: 5, place: 59 });
+    let _first = faults.push(Fault {
+        layer: 1,
+        cause: 4,
+        number: 9,
+        place: 2,
+    });
+    let _second = faults.push(Fault {
+        layer: 2,
+        cause: 1,
+        number: 5,
+        place: 59,
+    });
     faults
 }
 
@@ -32,7 +42,19 @@ fn what_does_not_fit_is_not_written() -> Result<(), Fail> {
     check_eq(put_message(&mut tray, 1, 5, 15, &[0xab, 0xcd]), None)?;
     check_eq(finish(&mut tray, 0, 0, &Faults::new()), None)?;
     check_eq(finish(&mut tray, 0, 5, &Faults::new()), None)?;
-    check_eq(put_fault(&mut tray, 2, Fault { layer: 1, cause: 1, number: 1, place: 2 }), None)?;
+    check_eq(
+        put_fault(
+            &mut tray,
+            2,
+            Fault {
+                layer: 1,
+                cause: 1,
+                number: 1,
+                place: 2,
+            },
+        ),
+        None,
+    )?;
     check_eq(tray, [0xaa; 5])?;
     check_eq(finish(&mut tray, 0, 1, &Faults::new()), Some(2))?;
     check_eq(tray, [0, 0, 0xaa, 0xaa, 0xaa])?;
@@ -44,7 +66,12 @@ fn what_does_not_fit_is_not_written() -> Result<(), Fail> {
 #[test]
 fn nine_faults_are_kept() -> Result<(), Fail> {
     let mut faults = Faults::new();
-    let fault = Fault { layer: 1, cause: 2, number: 3, place: 4 };
+    let fault = Fault {
+        layer: 1,
+        cause: 2,
+        number: 3,
+        place: 4,
+    };
     for _i in 0..9u32 {
         check(faults.push(fault))?;
     }
