@@ -32,17 +32,19 @@ message-end m at n = end-of (message-unfit m at n) at (message-bytes m)
 unfoldable pub message-put : Message → ℕ → List ℕ → List ℕ
 message-put m at t = cond (message-unfit m at (length t)) t (laid t at (message-bytes m))
 
--- the same of one fault
+-- what writing one fault answers: where it ends
 unfoldable pub fault-end : Fault → ℕ → ℕ → Option ℕ
 fault-end f at n = end-of (no-room at (fault-bytes f) n) at (fault-bytes f)
 
+-- what it leaves in the tray
 unfoldable pub fault-put : Fault → ℕ → List ℕ → List ℕ
 fault-put f at t = cond (no-room at (fault-bytes f) (length t)) t (laid t at (fault-bytes f))
 
--- the same of the section of faults
+-- what writing the section of faults answers: where it ends
 unfoldable pub section-end : List Fault → ℕ → ℕ → Option ℕ
 section-end fs at n = end-of (no-room at (fault-section fs) n) at (fault-section fs)
 
+-- what it leaves in the tray
 unfoldable pub section-put : List Fault → ℕ → List ℕ → List ℕ
 section-put fs at t = cond (no-room at (fault-section fs) (length t)) t (laid t at (fault-section fs))
 
