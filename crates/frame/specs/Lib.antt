@@ -1,0 +1,4 @@
+pub mod Frames
+pub mod Groups
+pub mod Marking
+pub mod Model

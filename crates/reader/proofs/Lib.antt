@@ -1,0 +1,5 @@
+pub mod Following
+pub mod Coming
+pub mod Keeping
+pub mod Wired
+pub mod Entered

@@ -1,0 +1,5 @@
+pub mod Following
+pub mod Settings
+pub mod Marks
+pub mod Offers
+pub mod Entered
