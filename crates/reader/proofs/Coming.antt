@@ -42,11 +42,13 @@ free-by : (d : Depth) (floor t : ℕ) (line tray : List ℕ) (o : Option Refusal
 free-by d floor t line tray (Some r) is e = absurd (none-some r e)
 free-by d floor t line tray None is e =
     elim (cases-lt t floor) [
-      inl low ↦ absurd (none-some FrameNumber (sym (cond-true _ _ _ (lt-ltb t floor low)) ∙ e))
-    | inr ok ↦
-        elim (cases-lt (length tray) 1630) [
-          inl short ↦ absurd (none-some (OutputLength (length tray)) (sym (cond-true _ _ _ (lt-ltb (length tray) 1630 short)) ∙ sym (cond-false _ _ _ (le-ltb t floor ok)) ∙ e))
-        | inr wide ↦ record { line-right = sym is; not-below = ok; room = wide } ] ]
+      | inl low ↦ absurd (none-some FrameNumber (sym (cond-true _ _ _ (lt-ltb t floor low)) ∙ e))
+      | inr ok ↦
+          elim (cases-lt (length tray) 1630) [
+            | inl short ↦ absurd (none-some (OutputLength (length tray)) (sym (cond-true _ _ _ (lt-ltb (length tray) 1630 short)) ∙ sym (cond-false _ _ _ (le-ltb t floor ok)) ∙ e))
+            | inr wide ↦ record { line-right = sym is; not-below = ok; room = wide }
+          ]
+    ]
 
 pub free : (d : Depth) (floor t : ℕ) (line tray : List ℕ) → offer-due d floor t line tray ≡ None → Free d floor t line tray
 free d floor t line tray e = free-by d floor t line tray (line-fault d line) refl e

@@ -67,8 +67,9 @@ good-item payload p bs e short low typed some any =
     let most : p ≤ 59 = omega arith in
     let one : 1 ≤ getD bs 0 0 = elim (cases-eq (getD bs 0 0) 0) [ inl z ↦ absurd (some z) | inr ne ↦ omega arith ] in
     elim (cases-eq (cause-at bs) 0) [
-      inl z ↦ subst Good (sym (cond-true (eqb (cause-at bs) 0) (read p (block-at bs)) (fault p (cause-at bs) (getD bs 0 0)) (let t = z in ap (λ c. eqb c 0) t))) (low, most, small-block payload p bs e short low typed some z)
-    | inr ne ↦ subst Good (sym (cond-false (eqb (cause-at bs) 0) (read p (block-at bs)) (fault p (cause-at bs) (getD bs 0 0)) (ne-eqb (cause-at bs) 0 ne))) (low, most, (let h : 1 ≤ cause-at bs = omega arith in h), cause-most bs, one) ]
+      | inl z ↦ subst Good (sym (cond-true (eqb (cause-at bs) 0) (read p (block-at bs)) (fault p (cause-at bs) (getD bs 0 0)) (let t = z in ap (λ c. eqb c 0) t))) (low, most, small-block payload p bs e short low typed some z)
+      | inr ne ↦ subst Good (sym (cond-false (eqb (cause-at bs) 0) (read p (block-at bs)) (fault p (cause-at bs) (getD bs 0 0)) (ne-eqb (cause-at bs) 0 ne))) (low, most, (let h : 1 ≤ cause-at bs = omega arith in h), cause-most bs, one)
+    ]
 
 -- the bytes behind the first
 tail-is : (payload : List ℕ) (p b : ℕ) (bs : List ℕ) → b ∷ bs ≡ drop p payload → bs ≡ drop (suc p) payload
@@ -80,10 +81,12 @@ all-good payload zero p [] e short low typed = tt
 all-good payload (suc k) p [] e short low typed = tt
 all-good payload zero p (b ∷ bs) e short low typed =
     elim (cases-eq b 0) [
-      inl z ↦ subst (Every Good) (sym (cond-true (eqb b 0) [] _ (ap (λ c. eqb c 0) z))) tt
-    | inr ne ↦ subst (Every Good) (sym (cond-false (eqb b 0) [] _ (ne-eqb b 0 ne)))
-        (good-item payload p (b ∷ bs) e short low typed ne (omega arith),
-         cond-both (finishes (cause-at (b ∷ bs))) [] _ (Every Good) (λ _. tt) (λ _. all-good payload (suc (count-of (b ∷ bs))) (suc p) bs (tail-is payload p b bs e) short (omega arith) typed)) ]
+      | inl z ↦ subst (Every Good) (sym (cond-true (eqb b 0) [] _ (ap (λ c. eqb c 0) z))) tt
+      | inr ne ↦ subst (Every Good) (sym (cond-false (eqb b 0) [] _ (ne-eqb b 0 ne))) (
+        good-item payload p (b ∷ bs) e short low typed ne (omega arith),
+        cond-both (finishes (cause-at (b ∷ bs))) [] _ (Every Good) (λ _. tt) (λ _. all-good payload (suc (count-of (b ∷ bs))) (suc p) bs (tail-is payload p b bs e) short (omega arith) typed),
+      )
+    ]
 all-good payload (suc k) p (b ∷ bs) e short low typed = all-good payload k (suc p) bs (tail-is payload p b bs e) short (omega arith) typed
 
 pub entries-good : (payload : List ℕ) → length payload ≤ 60 → ((i : ℕ) → getD payload i 0 < 256) → Every Good (entries payload)

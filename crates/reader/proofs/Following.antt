@@ -46,7 +46,6 @@ module _ (watch : List ℕ) (t : ℕ) where
   skipped-are (fault place cause number ∷ is) p = skipped-are is (follow watch t (fault place cause number) p)
   skipped-are (read place b ∷ is) p = skipped-are is (follow watch t (read place b) p) ∙ skip-one (watched watch (b .number)) (p .skipped) (skipped-of watch (blocks-read is))
 
-
 layer-more : (layer : ℕ) (fs gs : List Fault) → in-layer layer (fs ++ gs) ≡ in-layer layer fs + in-layer layer gs
 layer-more layer fs gs = sumBy-append (λ (f : Fault). cond (eqb (f .layer) layer) 1 0) fs gs
 

@@ -43,10 +43,11 @@ marked d found watch carries reading past as-found e t line tray a bytes at payl
     let r = as-found e t line tray a bytes at in
     let f = reading line payload carried in
     let w = reads-sent-blocks payload 235 82 bs (sealed .zeros) (sealed .each) (sealed .bytes) in
-    let event = nth-map (λ (x : Entry). event-of s (x .call) (x .outcome)) past e _ at in
-    (r .0 ∙ ap (length-in s) f,
-     event ∙ ap (λ o. Some (taken t (blocks-in s o))) f ∙ ap (λ l. Some (taken t l)) (w .1),
-     r .2 ∙ ap (spoilt-in s) f ∙ ap spoilt-of (w .0) ∙ row-clean 2 bs)
+    let event = nth-map (λ (x : Entry). event-of s (x .call) (x .outcome)) past e _ at in (
+      r .0 ∙ ap (length-in s) f,
+      event ∙ ap (λ o. Some (taken t (blocks-in s o))) f ∙ ap (λ l. Some (taken t l)) (w .1),
+      r .2 ∙ ap (spoilt-in s) f ∙ ap spoilt-of (w .0) ∙ row-clean 2 bs,
+    )
 
 -- a call that keeps to the rules of a run keeps the whole promise, over a system that shows its laws
 pub keeps : (d : Depth) (found : List ℕ → Option (List ℕ)) (watch : List ℕ) (draws : ℕ → Bool) (drawn : List ℕ → ℕ → List ℕ) (tolerates carries : Carrying) →
