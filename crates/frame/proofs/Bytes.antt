@@ -20,7 +20,7 @@ use Rattle.crc.specs.Crc.{crc}
 use Rattle.line.specs.Lines.{Drawable, good-count, begins, draw-answer}
 use Rattle.sending.specs.Sendings.{Sending, Block, IsSending, block}
 use Rattle.wire.specs.Wire.{word-bytes, check-bytes, count, head, covered, block-bytes}
-use Rattle.sending.proofs.Rules.{numbers, part-short}
+use Rattle.sending.proofs.Rules.{numbers, part-short, part-bytes}
 use Rattle.wire.proofs.Wires.{length-check}
 use Rattle.walk.specs.Laws.{OfASending}
 use Rattle.frame.specs.Frames.{wires, Sealed, SealedOver}
@@ -47,7 +47,7 @@ small-head s i r h =
     (omega (arith, n .1), (omega (arith, part-short s r i h, length-check (block s i .check)), (omega (arith, n .2, n .3, n .4), tt)))
 
 small-body : (s : Sending) (i : ℕ) → IsSending s → i < length (s .parts) → Small (getD (s .parts) i [])
-small-body s i r h = all-from-getD (λ b. b < 256) (getD (s .parts) i []) 0 (λ k l. r .bytes-stand i k h l)
+small-body s i r h = all-from-getD (λ b. b < 256) (getD (s .parts) i []) 0 (λ k l. part-bytes s r i k h l)
 
 small-block : (s : Sending) (i : ℕ) → IsSending s → i < length (s .parts) → Small (block-bytes (block s i))
 unfolding block-bytes covered

@@ -1,5 +1,5 @@
 -- Where symbols lie in a line.
-use mathlib.Core.Path.{_≡_, sym, subst, ap, _∙_}
+use mathlib.Core.Path.{_≡_, refl, sym, subst, ap, _∙_}
 use mathlib.Core.Bool.{true, false, _&&_}
 use lib.Dec.{eqb, leb}
 use mathlib.Core.List.{List, [], _∷_, _++_, map, append-assoc}
@@ -130,3 +130,8 @@ more-fits b values all t v a h k l =
 
 pub byte-more : (f : ℕ → ℕ) (b values all v t : ℕ) → values ≡ 2 ^ b → all ≡ gathered (2 ^ b) f t → v ≡ f t → all * values + v ≡ gathered (2 ^ b) f (t + 1)
 byte-more f b values all v t size e is = let next = gathered-next (2 ^ b) f t in cc
+
+-- the smallest good count
+pub good-240 : good-count 240 ≡ true
+unfolding good-count
+good-240 = refl

@@ -12,12 +12,12 @@ use Rattle.std.proofs.shelf.Counted.{getD-map-counting, length-map-counting}
 use Rattle.std.proofs.shelf.Elements.{all-from-getD}
 use Rattle.std.specs.declared.option.Option.the-variants.{Some, None}
 use Rattle.line.specs.declared.depth.Depth.the-variants.{Eight}
-use Rattle.line.specs.Lines.{good-count, line-fault, Drawable}
+use Rattle.line.specs.Lines.{line-fault, Drawable}
 use Rattle.line.specs.Symbols.{Near, Within, weight, level-at, symbol-of, symbol-at, drawn-by}
 use Rattle.line.specs.Scales.{found-by}
 use Rattle.line.proofs.Legal.{legal-count}
 use Rattle.line.proofs.Levels.{Close, Follows, line-follows, drawn-legal, drawn-near}
-use Rattle.line.proofs.Sizes.{weight-good}
+use Rattle.line.proofs.Sizes.{weight-good, good-240}
 use Rattle.onex.specs.OneX.{zero-places, one-places, measured, one-run, one-found}
 use Rattle.onex.specs.Tolerance.{Bears}
 use Rattle.onex.proofs.Folds.{largest-ge, smallest-le}
@@ -36,10 +36,6 @@ zero-bytes (suc n) = (omega arith, zero-bytes n)
 
 empty-drawable : Drawable (λ n. eqb n 30) empty
 empty-drawable = record { size = refl; front = refl; bytes = (omega arith, (omega arith, zero-bytes 28)) }
-
-good-240 : good-count 240 ≡ true
-unfolding good-count
-good-240 = refl
 
 -- the drawing with each level 4 towards the other
 abbrev shrunk : List ℕ

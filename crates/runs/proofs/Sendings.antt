@@ -1,15 +1,16 @@
 -- All that the proofs need to know of what makes a sending: it has parts.
 use Prim.Native.Nat.{ℕ, zero, suc, _≤_, _<_}
-use mathlib.Core.Path.{_≡_, ap, _∙_}
+use mathlib.Core.Path.{_≡_, refl, ap, _∙_}
 use mathlib.Core.List.{List, [], _∷_}
 use native.Mathlib.Omega.{arith}
 use lib.ListN.{length, getD}
 use Rattle.std.specs.Joined.{joined}
 use Rattle.std.proofs.shelf.Lists.{same-lists, getD-default}
+use Rattle.sending.proofs.Rules.{numbers, rule-of}
 use Rattle.sending.specs.Sendings.{Block, Sending, IsSending, last-part, message, block}
 
 pub has-parts : (s : Sending) → IsSending s → 1 ≤ length (s .parts)
-has-parts s is = is .one-to-four .0
+has-parts s is = numbers s is .3
 
 -- sendings with the same blocks have the same message
 pub same-message : (s g : Sending) → IsSending s → IsSending g → ((k : ℕ) → k ≤ last-part s → block s k ≡ block g k)
@@ -44,22 +45,8 @@ abbrev pub three : Sending
 three = record { number = 7; version = 2; parts = (1 ∷ 2 ∷ []) ∷ (3 ∷ []) ∷ (4 ∷ 5 ∷ []) ∷ [] }
 
 pub three-is : IsSending three
-three-is =
-    record {
-      number-stands = omega arith;
-      version-stands = omega arith;
-      one-to-four = omega arith;
-      parts-fit = fits;
-      last-fits = λ l. omega arith;
-      bytes-stand = bytes;
-    }
+three-is = rule-of 7 2 (three .parts) refl refl (omega arith) bytes
   where
-    fits : (k : ℕ) → k < 3 → length (getD (three .parts) k []) ≤ 51
-    fits zero l = omega arith
-    fits (suc zero) l = omega arith
-    fits (suc (suc zero)) l = omega arith
-    fits (suc (suc (suc k))) l = absurd (omega arith)
-
     bytes : (k i : ℕ) → k < 3 → i < length (getD (three .parts) k []) → getD (getD (three .parts) k []) i 0 < 256
     bytes zero zero l m = omega arith
     bytes zero (suc zero) l m = omega arith

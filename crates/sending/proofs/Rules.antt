@@ -40,6 +40,10 @@ part-short s r k h = r .parts-fit k h
 pub last-short : (s : Sending) → IsSending s → 2 ≤ length (s .parts) → length (getD (s .parts) (last-part s) []) ≤ 47
 last-short s r h = r .last-fits h
 
+-- what lies in a part
+pub part-bytes : (s : Sending) → IsSending s → (k i : ℕ) → k < length (s .parts) → i < length (getD (s .parts) k []) → getD (getD (s .parts) k []) i 0 < 256
+part-bytes s r k i h l = r .bytes-stand k i h l
+
 -- what makes a sending
 pub rule-of : (n v : ℕ) (ps : List (List ℕ)) → first-long (length ps) 0 ps ≡ None → unsuited n v (length ps) ≡ false → n < 256 → Plain ps → IsSending (record { number = n; version = v; parts = ps })
 rule-of n v ps short suits small plain =
