@@ -3,3 +3,7 @@ pub mod Coming
 pub mod Keeping
 pub mod Wired
 pub mod Entered
+pub mod Handing
+pub mod Arrived
+pub mod Tells
+pub mod Lines

@@ -3,3 +3,4 @@ pub mod Settings
 pub mod Marks
 pub mod Offers
 pub mod Entered
+pub mod Stands
