@@ -3,4 +3,4 @@ use Rattle.crc.proofs.crc32.Goals as goal
 
 pub returns : goal.returns
 unfolding crc
-returns c = record { answer = c.crc32-more.ensures.answer }
+returns c = record { answer = c.crc32_more.ensures.answer }

@@ -14,8 +14,8 @@ right k x = eqb x (times 8 shifted (k * 2 ^ 24))
 pub bounds-top : goal.bounds-top
 bounds-top c = xor_lt 8 (c.args.register / 16777216) c.args.byte (omega arith) (omega arith)
 
-pub offset-bounds-top : goal.offset-bounds-top
-offset-bounds-top c = record { fits = omega (arith, xor_lt 8 (c.args.register / 16777216) c.args.byte (omega arith) (omega arith)) }
+pub offset_bounds-top : goal.offset_bounds-top
+offset_bounds-top c = record { fits = omega (arith, xor_lt 8 (c.args.register / 16777216) c.args.byte (omega arith) (omega arith)) }
 
 pub returns : goal.returns
 unfolding right shifted

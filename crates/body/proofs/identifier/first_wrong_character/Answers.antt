@@ -4,8 +4,8 @@ use Rattle.std.proofs.lemmas.Bool.{cond-true, cond-false}
 use Rattle.body.specs.Identifiers.{is_alphanumeric, wrong_from}
 use Rattle.body.proofs.identifier.first_wrong_character.Goals as goal
 
-pub returns-then-not-is-ad-character : goal.returns-then-not-is-ad-character
-returns-then-not-is-ad-character c =
+pub returns-then-not-is_ad_character : goal.returns-then-not-is_ad_character
+returns-then-not-is_ad_character c =
     let xs = c.args.id.now in
     let i = c.loop-i.i in
     let bad : is_alphanumeric (get_or xs i 0) ≡ false = cc in

@@ -14,6 +14,6 @@ returns c =
     let n : length (u ++ id) ≡ length u + length id = length-append u id in
     let hl : length c.head.result ≡ 2 = ap length c.head.ensures in
     record {
-      bytes = laid_three c.args.out.now c.lay-until-at.new.out c.lay-until-id-at.new.out c.lay.new.out c.args.at c.lay-until-at.result c.lay-until-id-at.result c.head.result u id c.lay-until-at.ensures.bytes c.lay-until-at.ensures.place c.lay-until-id-at.ensures.bytes c.lay-until-id-at.ensures.place c.lay.ensures.bytes (omega arith) ∙ ap (λ x. laid c.args.out.now c.args.at (x ++ (u ++ id))) c.head.ensures;
+      bytes = laid_three c.args.out.now c.lay-until_at.new.out c.lay_until-id_at.new.out c.lay.new.out c.args.at c.lay-until_at.result c.lay_until-id_at.result c.head.result u id c.lay-until_at.ensures.bytes c.lay-until_at.ensures.place c.lay_until-id_at.ensures.bytes c.lay_until-id_at.ensures.place c.lay.ensures.bytes (omega arith) ∙ ap (λ x. laid c.args.out.now c.args.at (x ++ (u ++ id))) c.head.ensures;
       place = omega arith;
     }

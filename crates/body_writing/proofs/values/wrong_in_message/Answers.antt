@@ -6,9 +6,9 @@ pub returns-in-Some : goal.returns-in-Some
 unfolding content_id_wrong
 returns-in-Some c = search rules
 
-pub returns-in-Some-wrong-in-content-part : goal.returns-in-Some-wrong-in-content-part
+pub returns-in-Some-wrong_in_content_part : goal.returns-in-Some-wrong_in_content_part
 unfolding content_id_wrong
-returns-in-Some-wrong-in-content-part c = search rules
+returns-in-Some-wrong_in_content_part c = search rules
 
 pub returns : goal.returns
 unfolding content_id_wrong

@@ -8,22 +8,22 @@ use Rattle.buffers.proofs.Lays.{laid_three}
 use Rattle.body_writing.proofs.Writes.{message_length, message_right}
 use Rattle.body_writing.proofs.writing.lay_message.Goals as goal
 
-pub lay-content-at-requires : goal.lay-content-at-requires
-lay-content-at-requires c =
+pub lay-content_at-requires : goal.lay-content_at-requires
+lay-content_at-requires c =
     omega (arith, message_length (option identified c.args.message.now.content) c.args.message.now.channel)
 
-pub lay-content-part-channel-at-requires : goal.lay-content-part-channel-at-requires
-lay-content-part-channel-at-requires c =
+pub lay_content_part-channel_at-requires : goal.lay_content_part-channel_at-requires
+lay_content_part-channel_at-requires c =
     let m = c.args.message.now in
     record {
       room = omega (arith, message_length (option identified m.content) m.channel);
       right = (message_right is_alphanumeric (option identified m.content) m.channel c.requires.right).0;
     }
 
-pub lay-channel-requires : goal.lay-channel-requires
-lay-channel-requires c =
+pub lay_channel-requires : goal.lay_channel-requires
+lay_channel-requires c =
     let m = c.args.message.now in
-    let place : c.lay-content-part-channel-at.result ≡ 1 + length (content_bytes ones (option identified m.content)) = omega arith in
+    let place : c.lay_content_part-channel_at.result ≡ 1 + length (content_bytes ones (option identified m.content)) = omega arith in
     record {
       room = omega (arith, message_length (option identified m.content) m.channel);
       right = ap (λ p. channel_wrong p m.channel) place ∙ (message_right is_alphanumeric (option identified m.content) m.channel c.requires.right).1;
@@ -34,5 +34,5 @@ unfolding content_id_bytes
 returns c =
     let m = c.args.message.now in
     let content = content_bytes ones (option identified m.content) in
-    laid_three c.args.out.now c.lay-content-at.new.out c.lay-content-part-channel-at.new.out c.lay-channel.new.out 0 c.lay-content-at.result c.lay-content-part-channel-at.result (c.first-byte.result ∷ []) content (channel_bytes ones.channel m.channel) c.lay-content-at.ensures.bytes c.lay-content-at.ensures.place c.lay-content-part-channel-at.ensures.bytes c.lay-content-part-channel-at.ensures.place c.lay-channel.ensures (omega (arith, message_length (option identified m.content) m.channel))
-    ∙ ap (λ b. laid c.args.out.now 0 (b ∷ (content ++ channel_bytes ones.channel m.channel))) c.first-byte.ensures
+    laid_three c.args.out.now c.lay-content_at.new.out c.lay_content_part-channel_at.new.out c.lay_channel.new.out 0 c.lay-content_at.result c.lay_content_part-channel_at.result (c.first_byte.result ∷ []) content (channel_bytes ones.channel m.channel) c.lay-content_at.ensures.bytes c.lay-content_at.ensures.place c.lay_content_part-channel_at.ensures.bytes c.lay_content_part-channel_at.ensures.place c.lay_channel.ensures (omega (arith, message_length (option identified m.content) m.channel))
+    ∙ ap (λ b. laid c.args.out.now 0 (b ∷ (content ++ channel_bytes ones.channel m.channel))) c.first_byte.ensures

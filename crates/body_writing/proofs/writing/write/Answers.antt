@@ -8,8 +8,8 @@ use Rattle.body_writing.proofs.writing.write.Goals as goal
 pub returns : goal.returns
 returns c =
     let m = said_content_id c.args.message.now in
-    let right : content_id_wrong is_alphanumeric m ≡ None = sym c.in-default.ensures in
+    let right : content_id_wrong is_alphanumeric m ≡ None = sym c.in_default.ensures in
     record {
-      answer = written_answer (content_id_wrong is_alphanumeric m) (content_id_bytes ones m) c.args.out.now _ c.message-size-size.ensures (omega arith) right;
-      output = written_bytes (content_id_wrong is_alphanumeric m) (content_id_bytes ones m) c.args.out.now _ (omega arith) right c.lay-message.ensures;
+      answer = written_answer (content_id_wrong is_alphanumeric m) (content_id_bytes ones m) c.args.out.now _ c.message_size-size.ensures (omega arith) right;
+      output = written_bytes (content_id_wrong is_alphanumeric m) (content_id_bytes ones m) c.args.out.now _ (omega arith) right c.lay_message.ensures;
     }

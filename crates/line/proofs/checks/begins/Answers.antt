@@ -3,8 +3,8 @@ use Rattle.std.proofs.lemmas.List.{get_or_past}
 use Rattle.std.proofs.lemmas.Bool.{and_right, ne_eqb}
 use Rattle.line.proofs.checks.begins.Goals as goal
 
-pub returns-in-default : goal.returns-in-default
-returns-in-default c =
+pub returns-in_default : goal.returns-in_default
+returns-in_default c =
     let p = c.args.payload.now in
     let short : length p ≤ 1 = omega (arith, ltb-true) in
     let past = get_or_past p 1 0 short in

@@ -3,17 +3,17 @@ use Rattle.line.proofs.Sizes.{symbol_place, base_small, more_fits, byte_more}
 use Rattle.line.specs.Symbols.{value_of, level_at}
 use Rattle.line.proofs.reading.byte.Goals as goal
 
-pub overflow-cast-j : goal.overflow-cast-j
-overflow-cast-j c = let h = symbol_place c.args.bits c.requires.letters.low c.requires.letters.high c.args.j c.loop-t.t c.requires.place c.loop-t-test.true in search rules
+pub overflow_cast-j : goal.overflow_cast-j
+overflow_cast-j c = let h = symbol_place c.args.bits c.requires.letters.low c.requires.letters.high c.args.j c.loop-t.t c.requires.place c.loop-t-test.true in search rules
 
-pub overflow-mul-all : goal.overflow-mul-all
-overflow-mul-all c =
+pub overflow_mul-all : goal.overflow_mul-all
+overflow_mul-all c =
     let h = c.loop-t.invariant.1 in
     let m = more_fits c.args.bits (length c.args.cuts.now + 1) c.loop-t.all c.loop-t.t 0 c.requires.letters c.loop-t-test.true h (omega arith) in
     omega (arith, m.1)
 
-pub overflow-add-all : goal.overflow-add-all
-overflow-add-all c =
+pub overflow_add-all : goal.overflow_add-all
+overflow_add-all c =
     let m = more_fits c.args.bits (length c.args.cuts.now + 1) c.loop-t.all c.loop-t.t c.value.result c.requires.letters c.loop-t-test.true c.loop-t.invariant.1 (omega arith) in
     omega (arith, m.1)
 

@@ -18,7 +18,7 @@ keep-requires-then-count-eq2 c =
     let a : c.split.result.0.now ≡ take (k - 7) m = c.split.ensures.first ∙ ap (λ n. take n m) w in
     let b : c.split.result.1.now ≡ drop (k - 7) m = c.split.ensures.others ∙ ap (λ n. drop n m) w in
     record {
-      short = (λ i. first-long 2 0 (a i ∷ b i ∷ [])) ∙ cut_short_at k 2 m (small c.args.room) c.requires.short (sym c.parts-for-count.ensures ∙ c.if-count-eq2.true);
+      short = (λ i. first-long 2 0 (a i ∷ b i ∷ [])) ∙ cut_short_at k 2 m (small c.args.room) c.requires.short (sym c.parts_for-count.ensures ∙ c.if-count-eq2.true);
       suited = suits_more c.args.number c.args.version 2 c.requires.suited (omega arith) (omega arith);
     }
 
@@ -32,7 +32,7 @@ keep-requires-then-count-eq3 c =
     let d : c.split-2.result.0.now ≡ take (k - 7) (drop (k - 7) m) = c.split-2.ensures.first ∙ (λ i. take (w i) (b i)) in
     let e : c.split-2.result.1.now ≡ drop (k - 7) (drop (k - 7) m) = c.split-2.ensures.others ∙ (λ i. drop (w i) (b i)) in
     record {
-      short = (λ i. first-long 3 0 (a i ∷ d i ∷ e i ∷ [])) ∙ cut_short_at k 3 m (small c.args.room) c.requires.short (sym c.parts-for-count.ensures ∙ c.if-count-eq3.true);
+      short = (λ i. first-long 3 0 (a i ∷ d i ∷ e i ∷ [])) ∙ cut_short_at k 3 m (small c.args.room) c.requires.short (sym c.parts_for-count.ensures ∙ c.if-count-eq3.true);
       suited = suits_more c.args.number c.args.version 3 c.requires.suited (omega arith) (omega arith);
     }
 
@@ -41,7 +41,7 @@ keep-requires-2 c =
     let k = room_bytes c.args.room in
     let m = c.args.message.now in
     let r = count_range k (length m) c.requires.short in
-    let four : part_count k (length m) ≡ 4 = omega (arith, r, c.parts-for-count.ensures, c.if-count-eq1.false, c.if-count-eq2.false, c.if-count-eq3.false) in
+    let four : part_count k (length m) ≡ 4 = omega (arith, r, c.parts_for-count.ensures, c.if-count-eq1.false, c.if-count-eq2.false, c.if-count-eq3.false) in
     let w : c.bytes-width.result - 7 ≡ k - 7 = ap (λ n. n - 7) c.bytes-width.ensures.answer in
     let a : c.split.result.0.now ≡ take (k - 7) m = c.split.ensures.first ∙ ap (λ n. take n m) w in
     let b : c.split.result.1.now ≡ drop (k - 7) m = c.split.ensures.others ∙ ap (λ n. drop n m) w in

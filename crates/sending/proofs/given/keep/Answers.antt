@@ -7,32 +7,32 @@ use Rattle.sending.proofs.Stores.{stored_parts, rising_all, within_all}
 use Rattle.sending.proofs.Rules.{rule_of}
 use Rattle.sending.proofs.given.keep.Goals as goal
 
-pub lay-parts-kept-requires : goal.lay-parts-kept-requires
-lay-parts-kept-requires c =
+pub lay_parts-kept-requires : goal.lay_parts-kept-requires
+lay_parts-kept-requires c =
     let ps = texts c.args.parts.now in
     let s = suited c.args.number c.args.version (length ps) c.requires.suited in
     let n = texts_length c.args.parts.now in
     record { few = omega arith; room = total ps c.requires.short (omega arith) }
 
-pub invariant-of-result : goal.invariant-of-result
-invariant-of-result c =
+pub invariant_of-result : goal.invariant_of-result
+invariant_of-result c =
     let ps = texts c.args.parts.now in
     let s = suited c.args.number c.args.version (length ps) c.requires.suited in
     let n = texts_length c.args.parts.now in
     let t : length (joint ps) ≤ 200 = total ps c.requires.short (omega arith) in
-    let rule = rule_of c.args.number c.args.version ps c.requires.short c.requires.suited (omega arith) c.lay-parts-kept.ensures.plain in (
+    let rule = rule_of c.args.number c.args.version ps c.requires.short c.requires.suited (omega arith) c.lay_parts-kept.ensures.plain in (
       omega arith,
       (
-        c.lay-parts-kept.ensures.four,
+        c.lay_parts-kept.ensures.four,
         (
-          rising_all (length c.args.parts.now) c.lay-parts-kept.result.places ps c.lay-parts-kept.ensures.places (sym n),
+          rising_all (length c.args.parts.now) c.lay_parts-kept.result.places ps c.lay_parts-kept.ensures.places (sym n),
           (
-            (λ k h. omega (arith, within_all (length c.args.parts.now) c.lay-parts-kept.result.places ps c.lay-parts-kept.ensures.places (sym n) k h)),
-            (∣ subst (λ (qs : List (List ℕ)). IsSending (record { number = c.args.number; version = c.args.version; parts = qs })) (sym (stored_parts (length c.args.parts.now) c.lay-parts-kept.result.places c.lay-parts-kept.result.bytes ps c.lay-parts-kept.ensures.places c.lay-parts-kept.ensures.bytes)) rule ∣₁, tt),
+            (λ k h. omega (arith, within_all (length c.args.parts.now) c.lay_parts-kept.result.places ps c.lay_parts-kept.ensures.places (sym n) k h)),
+            (∣ subst (λ (qs : List (List ℕ)). IsSending (record { number = c.args.number; version = c.args.version; parts = qs })) (sym (stored_parts (length c.args.parts.now) c.lay_parts-kept.result.places c.lay_parts-kept.result.bytes ps c.lay_parts-kept.ensures.places c.lay_parts-kept.ensures.bytes)) rule ∣₁, tt),
           ),
         ),
       ),
     )
 
 pub returns : goal.returns
-returns c = ap (λ (qs : List (List ℕ)). record { number = c.args.number; version = c.args.version; parts = qs }) (stored_parts (length c.args.parts.now) c.lay-parts-kept.result.places c.lay-parts-kept.result.bytes (texts c.args.parts.now) c.lay-parts-kept.ensures.places c.lay-parts-kept.ensures.bytes)
+returns c = ap (λ (qs : List (List ℕ)). record { number = c.args.number; version = c.args.version; parts = qs }) (stored_parts (length c.args.parts.now) c.lay_parts-kept.result.places c.lay_parts-kept.result.bytes (texts c.args.parts.now) c.lay_parts-kept.ensures.places c.lay_parts-kept.ensures.bytes)

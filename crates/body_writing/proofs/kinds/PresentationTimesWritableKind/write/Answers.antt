@@ -8,9 +8,9 @@ use Rattle.body_writing.proofs.kinds.PresentationTimesWritableKind.write.Goals a
 pub returns : goal.returns
 returns c =
     let m = presentation c.args.message.now in
-    let right : presentation_wrong m ≡ None = sym c.in-default.ensures in
-    let six : length c.time-as-bytes.result ≡ 6 = ap length c.time-as-bytes.ensures in
+    let right : presentation_wrong m ≡ None = sym c.in_default.ensures in
+    let six : length c.time_as_bytes.result ≡ 6 = ap length c.time_as_bytes.ensures in
     record {
       answer = written_answer (presentation_wrong m) (presentation_bytes ones m) c.args.out.now _ (omega arith) (omega arith) right;
-      output = written_bytes (presentation_wrong m) (presentation_bytes ones m) c.args.out.now _ (omega arith) right (c.lay.ensures.bytes ∙ ap (laid c.args.out.now 0) c.time-as-bytes.ensures);
+      output = written_bytes (presentation_wrong m) (presentation_bytes ones m) c.args.out.now _ (omega arith) right (c.lay.ensures.bytes ∙ ap (laid c.args.out.now 0) c.time_as_bytes.ensures);
     }

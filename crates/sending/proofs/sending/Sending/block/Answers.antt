@@ -5,8 +5,8 @@ use Rattle.sending.proofs.Kept.{some, long}
 use Rattle.sending.proofs.Wants.{block_none, block_some}
 use Rattle.sending.proofs.sending.Sending.block.Goals as goal
 
-pub overflow-sub-last : goal.overflow-sub-last
-overflow-sub-last c = some c.args.self.now
+pub overflow_sub-last : goal.overflow_sub-last
+overflow_sub-last c = some c.args.self.now
 
 pub returns-in-None : goal.returns-in-None
 returns-in-None c =

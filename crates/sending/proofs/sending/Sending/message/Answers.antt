@@ -1,8 +1,8 @@
 use Rattle.sending.proofs.Kept.{some, last_place, message_there}
 use Rattle.sending.proofs.sending.Sending.message.Goals as goal
 
-pub overflow-sub-end : goal.overflow-sub-end
-overflow-sub-end c = some c.args.self.now
+pub overflow_sub-end : goal.overflow_sub-end
+overflow_sub-end c = some c.args.self.now
 
 pub shared-ref-as-front·result : goal.shared-ref-as-front·result
 shared-ref-as-front·result c = last_place c.args.self.now
