@@ -93,7 +93,7 @@ def kept(path, text):
     """Names that stay in this file: imported from the kit or from what Rattle makes, or declared as a goal's answer."""
     stay = set()
     for m in USE.finditer(text):
-        made = m[1].endswith((".Goals", ".Given", ".Needs"))
+        made = ".proofs." in m[1] and m[1].endswith((".Goals", ".Given", ".Needs"))
         if KIT.match(m[1]) or made:
             for item in m[2].split(","):
                 stay.update(item.split(" as ")[0].split())

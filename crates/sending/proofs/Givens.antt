@@ -5,39 +5,39 @@ use Rattle.std.proofs.lemmas.List.{drop_more, get_or-map, length-map, length-app
 use Rattle.std.proofs.lemmas.Bool.{cond-true, cond-false, cond_both, lt-ltb, le-ltb, ltb-false, or_parts, eqb-false, eq-eqb, ne_eqb, le-leb, cases_lt}
 use Rattle.sending.specs.Sendings.{Sending}
 use Rattle.sending.specs.Storage.{joint, Plain}
-use Rattle.sending.specs.Given.{part_limit, first-long, texts, unsuited, unless-long, of_parts}
+use Rattle.sending.specs.Given.{part_limit, first_long, texts, unsuited, unless_long, of_parts}
 
 module _ (n i : ℕ) (ps : List (List ℕ)) (h : i < length ps) where
-  pub long_here : part_limit n i < length (get_or ps i []) → first-long n i (drop i ps) ≡ Some (length (get_or ps i []))
+  pub long_here : part_limit n i < length (get_or ps i []) → first_long n i (drop i ps) ≡ Some (length (get_or ps i []))
   long_here l =
-      ap (first-long n i) (drop_more ps i [] h)
-      ∙ cond-true (ltb (part_limit n i) (length (get_or ps i []))) (Some (length (get_or ps i []))) (first-long n (i + 1) (drop (i + 1) ps)) (lt-ltb (part_limit n i) (length (get_or ps i [])) l)
+      ap (first_long n i) (drop_more ps i [] h)
+      ∙ cond-true (ltb (part_limit n i) (length (get_or ps i []))) (Some (length (get_or ps i []))) (first_long n (i + 1) (drop (i + 1) ps)) (lt-ltb (part_limit n i) (length (get_or ps i [])) l)
 
-  pub long_next : length (get_or ps i []) ≤ part_limit n i → first-long n i (drop i ps) ≡ first-long n (i + 1) (drop (i + 1) ps)
+  pub long_next : length (get_or ps i []) ≤ part_limit n i → first_long n i (drop i ps) ≡ first_long n (i + 1) (drop (i + 1) ps)
   long_next l =
-      ap (first-long n i) (drop_more ps i [] h)
-      ∙ cond-false (ltb (part_limit n i) (length (get_or ps i []))) (Some (length (get_or ps i []))) (first-long n (i + 1) (drop (i + 1) ps)) (le-ltb (part_limit n i) (length (get_or ps i [])) l)
+      ap (first_long n i) (drop_more ps i [] h)
+      ∙ cond-false (ltb (part_limit n i) (length (get_or ps i []))) (Some (length (get_or ps i []))) (first_long n (i + 1) (drop (i + 1) ps)) (le-ltb (part_limit n i) (length (get_or ps i [])) l)
 
 passed : {X : Type 0} (b : Bool) (x : X) (r : Option X) → cond b (Some x) r ≡ None → (b ≡ false) × (r ≡ None)
 passed true x r e = absurd (let z : ◌≡◌ {A = ℕ} 0 1 = cc in omega arith)
 passed false x r e = (refl, e)
 
 -- where none is too long, each is short
-pub short_parts : (n j : ℕ) (ps : List (List ℕ)) → first-long n j ps ≡ None → (k : ℕ) → k < length ps → length (get_or ps k []) ≤ part_limit n (j + k)
+pub short_parts : (n j : ℕ) (ps : List (List ℕ)) → first_long n j ps ≡ None → (k : ℕ) → k < length ps → length (get_or ps k []) ≤ part_limit n (j + k)
 short_parts n j [] e k h = absurd (omega arith)
 short_parts n j (p ∷ ps) e zero h =
-    let q = passed (ltb (part_limit n j) (length p)) (length p) (first-long n (j + 1) ps) e in
+    let q = passed (ltb (part_limit n j) (length p)) (length p) (first_long n (j + 1) ps) e in
     subst (λ m. length p ≤ part_limit n m) (omega arith) (ltb-false (part_limit n j) (length p) q.0)
 short_parts n j (p ∷ ps) e (suc k) h =
-    let q = passed (ltb (part_limit n j) (length p)) (length p) (first-long n (j + 1) ps) e in
+    let q = passed (ltb (part_limit n j) (length p)) (length p) (first_long n (j + 1) ps) e in
     subst (λ m. length (get_or ps k []) ≤ part_limit n m) (omega arith) (short_parts n (j + 1) ps q.1 k (omega arith))
 
 -- and where each is short, none is too long
-pub none_long : (n j : ℕ) (ps : List (List ℕ)) → ((k : ℕ) → k < length ps → length (get_or ps k []) ≤ part_limit n (j + k)) → first-long n j ps ≡ None
+pub none_long : (n j : ℕ) (ps : List (List ℕ)) → ((k : ℕ) → k < length ps → length (get_or ps k []) ≤ part_limit n (j + k)) → first_long n j ps ≡ None
 none_long n j [] s = refl
 none_long n j (p ∷ ps) s =
     let one : length p ≤ part_limit n j = subst (λ m. length p ≤ part_limit n m) (omega arith) (s 0 (omega arith)) in
-    cond-false (ltb (part_limit n j) (length p)) (Some (length p)) (first-long n (j + 1) ps) (le-ltb (part_limit n j) (length p) one)
+    cond-false (ltb (part_limit n j) (length p)) (Some (length p)) (first_long n (j + 1) ps) (le-ltb (part_limit n j) (length p) one)
     ∙ none_long n (j + 1) ps (λ k h. subst (λ m. length (get_or ps k []) ≤ part_limit n m) (omega arith) (s (suc k) (omega arith)))
 
 pub limit_most : (n k : ℕ) → part_limit n k ≤ 51
@@ -53,7 +53,7 @@ pub limit_inner : (n k : ℕ) → (k + 1 ≡ n → ⊥) → part_limit n k ≡ 5
 limit_inner n k h = cond_both (leb 2 n) (cond (eqb (k + 1) n) 47 51) 51 (λ x. x ≡ 51) (λ _. cond-false (eqb (k + 1) n) 47 51 (ne_eqb (k + 1) n h)) (λ _. refl)
 
 -- parts of which none is too long have at most 200 bytes
-pub total : (ps : List (List ℕ)) → first-long (length ps) 0 ps ≡ None → length ps ≤ 4 → length (joint ps) ≤ 200
+pub total : (ps : List (List ℕ)) → first_long (length ps) 0 ps ≡ None → length ps ≤ 4 → length (joint ps) ≤ 200
 total [] e h = omega arith
 total (a ∷ []) e h = let s = short_parts 1 0 (a ∷ []) e in simp length-append (omega (arith, s 0 (omega arith)))
 total (a ∷ b ∷ []) e h = let s = short_parts 2 0 (a ∷ b ∷ []) e in simp length-append (omega (arith, s 0 (omega arith), s 1 (omega arith)))
@@ -102,8 +102,8 @@ plain_next ps i h before here k j hk hj =
     (cases_lt k i))
 
 -- ---- the answer
-pub given_unfit : (s : Sending) → None ≡ first-long (length s.parts) 0 s.parts → unsuited s.number s.version (length s.parts) ≡ true → of_parts s ≡ Err NotOfASending
-given_unfit s e u = ap (λ o. unless-long o s) (sym e) ∙ cond-true (unsuited s.number s.version (length s.parts)) (Err NotOfASending) (Ok s) u
+pub given_unfit : (s : Sending) → None ≡ first_long (length s.parts) 0 s.parts → unsuited s.number s.version (length s.parts) ≡ true → of_parts s ≡ Err NotOfASending
+given_unfit s e u = ap (λ o. unless_long o s) (sym e) ∙ cond-true (unsuited s.number s.version (length s.parts)) (Err NotOfASending) (Ok s) u
 
-pub given_fit : (s : Sending) → None ≡ first-long (length s.parts) 0 s.parts → unsuited s.number s.version (length s.parts) ≡ false → of_parts s ≡ Ok s
-given_fit s e u = ap (λ o. unless-long o s) (sym e) ∙ cond-false (unsuited s.number s.version (length s.parts)) (Err NotOfASending) (Ok s) u
+pub given_fit : (s : Sending) → None ≡ first_long (length s.parts) 0 s.parts → unsuited s.number s.version (length s.parts) ≡ false → of_parts s ≡ Ok s
+given_fit s e u = ap (λ o. unless_long o s) (sym e) ∙ cond-false (unsuited s.number s.version (length s.parts)) (Err NotOfASending) (Ok s) u

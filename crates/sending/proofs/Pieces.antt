@@ -5,7 +5,7 @@ use Rattle.std.proofs.lemmas.List.{length-take, length-drop, take_all, drop_all,
 use Rattle.std.proofs.lemmas.Bool.{cond-true, cond-false, cond_both, le-leb, lt-leb, lt-ltb, le-ltb, ltb-false, cases_lt}
 use Rattle.std.proofs.lemmas.Bool.Decides.{nat_tests}
 use Rattle.sending.specs.Storage.{joint}
-use Rattle.sending.specs.Given.{part_limit, first-long, unsuited}
+use Rattle.sending.specs.Given.{part_limit, first_long, unsuited}
 use Rattle.sending.specs.Cuts.{capacity, part_count, pieces, cut_parts, cutting, Smallest, IsCut, CutRight}
 use Rattle.sending.proofs.Givens.{none_long, limit_least, limit_inner, suited}
 
@@ -103,7 +103,7 @@ last_piece c m small most =
     (λ e. omega (arith, pieces_last (part_count c (length m) - 1) (c - 7) (c - 11) m e.1.enough, limit_least (part_count c (length m)) (part_count c (length m) - 1)))
     (counts c (length m) most)
 
-pub cut_short : (c : ℕ) (m : List ℕ) → c ≤ 58 → length m ≤ capacity c 4 → first-long (length (cut_parts c m)) 0 (cut_parts c m) ≡ None
+pub cut_short : (c : ℕ) (m : List ℕ) → c ≤ 58 → length m ≤ capacity c 4 → first_long (length (cut_parts c m)) 0 (cut_parts c m) ≡ None
 cut_short c m small most =
     let n = part_count c (length m) in
     let some : 1 ≤ n = ⊎_elim (λ h. omega (arith, h.1)) (λ h. omega (arith, h.1.two_to_four.0)) (counts c (length m) most) in
@@ -118,8 +118,8 @@ cut_short c m small most =
     (cases_lt k (n - 1)))))
 
 -- the same, where the count is known
-pub cut_short_at : (c n : ℕ) (m : List ℕ) → c ≤ 58 → length m ≤ capacity c 4 → part_count c (length m) ≡ n → first-long (length (pieces (n - 1) (c - 7) m)) 0 (pieces (n - 1) (c - 7) m) ≡ None
-cut_short_at c n m small most e = subst (λ k. first-long (length (pieces (k - 1) (c - 7) m)) 0 (pieces (k - 1) (c - 7) m) ≡ None) e (cut_short c m small most)
+pub cut_short_at : (c n : ℕ) (m : List ℕ) → c ≤ 58 → length m ≤ capacity c 4 → part_count c (length m) ≡ n → first_long (length (pieces (n - 1) (c - 7) m)) 0 (pieces (n - 1) (c - 7) m) ≡ None
+cut_short_at c n m small most e = subst (λ k. first_long (length (pieces (k - 1) (c - 7) m)) 0 (pieces (k - 1) (c - 7) m) ≡ None) e (cut_short c m small most)
 
 -- what suits one part suits more
 pub suits_more : (number version n : ℕ) → unsuited number version 1 ≡ false → 1 ≤ n → n ≤ 4 → unsuited number version n ≡ false

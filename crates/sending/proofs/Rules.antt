@@ -5,7 +5,7 @@ use native.Mathlib.Bridge.{le_prop}
 use Rattle.std.proofs.Common.{◌≡◌, ℕ, ◌+◌, ◌-◌, ◌<◌, ◌≤◌, false, List, [], ◌∷◌, length, get_or, None, sym, refl, ap, ◌∙◌, subst, arith}
 use Rattle.sending.specs.Sendings.{Sending, IsSending, last_part}
 use Rattle.sending.specs.Storage.{Plain}
-use Rattle.sending.specs.Given.{part_limit, first-long, unsuited}
+use Rattle.sending.specs.Given.{part_limit, first_long, unsuited}
 use Rattle.sending.proofs.Givens.{suited, short_parts, limit_most, limit_last}
 
 -- two proofs of the rule are one
@@ -39,7 +39,7 @@ pub part_bytes : (s : Sending) → IsSending s → (k i : ℕ) → k < length s.
 part_bytes s r k i h l = r.bytes_stand k i h l
 
 -- what makes a sending
-pub rule_of : (n v : ℕ) (ps : List (List ℕ)) → first-long (length ps) 0 ps ≡ None → unsuited n v (length ps) ≡ false → n < 256 → Plain ps → IsSending (record { number = n; version = v; parts = ps })
+pub rule_of : (n v : ℕ) (ps : List (List ℕ)) → first_long (length ps) 0 ps ≡ None → unsuited n v (length ps) ≡ false → n < 256 → Plain ps → IsSending (record { number = n; version = v; parts = ps })
 rule_of n v ps short suits small plain =
     let s = suited n v (length ps) suits in
     let f : (k : ℕ) → k < length ps → length (get_or ps k []) ≤ part_limit (length ps) k =

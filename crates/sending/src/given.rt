@@ -1,6 +1,6 @@
 // A sending of given parts.
 ghost use Rattle.std.specs.Prelude.{◌≡◌, ℕ, ◌<◌, false, length, None};
-ghost use Rattle.sending.specs.Given.{part_limit, first-long, texts, unsuited, of_parts};
+ghost use Rattle.sending.specs.Given.{part_limit, first_long, texts, unsuited, of_parts};
 ghost use Rattle.sending.specs.Model.{sent, told};
 
 use super::limits::{LAST_MOST, PART_MOST, PARTS_MOST, VERSION_MOST};
@@ -22,7 +22,7 @@ fn limit(n: usize, k: usize) -> usize
 
 // The length of the first part that is too long.
 fn too_long(parts: &[&[u8]]) -> Option<usize>
-    ensures { result ≡ first-long (length (texts parts.now)) 0 (texts parts.now) }
+    ensures { result ≡ first_long (length (texts parts.now)) 0 (texts parts.now) }
 {
     let n = parts.len();
     for (i, part) in parts.iter().enumerate() {
@@ -42,7 +42,7 @@ pub(crate) fn not_of_a_sending(number: u8, version: u8, count: usize) -> bool
 
 // The sending of parts that make one.
 pub(crate) fn keep(number: u8, version: u8, parts: &[&[u8]]) -> Sending
-    requires short { first-long (length (texts parts.now)) 0 (texts parts.now) ≡ None }
+    requires short { first_long (length (texts parts.now)) 0 (texts parts.now) ≡ None }
     requires suited { unsuited number version (length (texts parts.now)) ≡ false }
     ensures { sent result ≡ record { number = number; version = version; parts = texts parts.now } }
 {

@@ -17,14 +17,14 @@ loop-k-preserved c =
     let by : Bool → ℕ × ℕ = λ b. cond b (max was.0 level, was.1) (was.0, min was.1 level) in
     elim (cases_Bool (zero_at k)) [
       | inl is ↦
-          (let new : c.with-symbol-measured.result ≡ (max was.0 level, was.1) = c.with-symbol-measured.ensures ∙ ap by is in
+          (let new : c.with_symbol-measured.result ≡ (max was.0 level, was.1) = c.with_symbol-measured.ensures ∙ ap by is in
           let z = fold_yes (λ m j. max m (S j)) 0 zero_at k is in
           let o = fold_no (λ m j. min m (S j)) (S 0) one_at k (ap not is) in
           let a = ap (λ m. m.0) new in
           let b = ap (λ m. m.1) new in
           (omega arith, cc, cc, omega arith, omega arith))
       | inr is ↦
-          (let new : c.with-symbol-measured.result ≡ (was.0, min was.1 level) = c.with-symbol-measured.ensures ∙ ap by is in
+          (let new : c.with_symbol-measured.result ≡ (was.0, min was.1 level) = c.with_symbol-measured.ensures ∙ ap by is in
           let z = fold_no (λ m j. max m (S j)) 0 zero_at k is in
           let o = fold_yes (λ m j. min m (S j)) (S 0) one_at k (ap not is) in
           let a = ap (λ m. m.0) new in

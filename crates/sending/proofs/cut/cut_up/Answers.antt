@@ -1,5 +1,5 @@
 use Rattle.std.proofs.Common.{◌≡◌, ℕ, ◌-◌, ◌≤◌, List, [], ◌∷◌, length, take, drop, sym, refl, ap, ◌∙◌, subst, arith}
-use Rattle.sending.specs.Given.{first-long}
+use Rattle.sending.specs.Given.{first_long}
 use Rattle.sending.specs.Cuts.{room_bytes, part_count}
 use Rattle.sending.specs.declared.room.Room.{Room}
 use Rattle.sending.specs.declared.room.Room.TheVariants.{OneX, TwoX}
@@ -18,7 +18,7 @@ keep-requires-then-count-eq2 c =
     let a : c.split.result.0.now ≡ take (k - 7) m = c.split.ensures.first ∙ ap (λ n. take n m) w in
     let b : c.split.result.1.now ≡ drop (k - 7) m = c.split.ensures.others ∙ ap (λ n. drop n m) w in
     record {
-      short = (λ i. first-long 2 0 (a i ∷ b i ∷ [])) ∙ cut_short_at k 2 m (small c.args.room) c.requires.short (sym c.parts_for-count.ensures ∙ c.if-count-eq2.true);
+      short = (λ i. first_long 2 0 (a i ∷ b i ∷ [])) ∙ cut_short_at k 2 m (small c.args.room) c.requires.short (sym c.parts_for-count.ensures ∙ c.if-count-eq2.true);
       suited = suits_more c.args.number c.args.version 2 c.requires.suited (omega arith) (omega arith);
     }
 
@@ -32,7 +32,7 @@ keep-requires-then-count-eq3 c =
     let d : c.split-2.result.0.now ≡ take (k - 7) (drop (k - 7) m) = c.split-2.ensures.first ∙ (λ i. take (w i) (b i)) in
     let e : c.split-2.result.1.now ≡ drop (k - 7) (drop (k - 7) m) = c.split-2.ensures.others ∙ (λ i. drop (w i) (b i)) in
     record {
-      short = (λ i. first-long 3 0 (a i ∷ d i ∷ e i ∷ [])) ∙ cut_short_at k 3 m (small c.args.room) c.requires.short (sym c.parts_for-count.ensures ∙ c.if-count-eq3.true);
+      short = (λ i. first_long 3 0 (a i ∷ d i ∷ e i ∷ [])) ∙ cut_short_at k 3 m (small c.args.room) c.requires.short (sym c.parts_for-count.ensures ∙ c.if-count-eq3.true);
       suited = suits_more c.args.number c.args.version 3 c.requires.suited (omega arith) (omega arith);
     }
 
@@ -50,6 +50,6 @@ keep-requires-2 c =
     let f : c.split-3.result.0.now ≡ take (k - 7) (drop (k - 7) (drop (k - 7) m)) = c.split-3.ensures.first ∙ (λ i. take (w i) (e i)) in
     let g : c.split-3.result.1.now ≡ drop (k - 7) (drop (k - 7) (drop (k - 7) m)) = c.split-3.ensures.others ∙ (λ i. drop (w i) (e i)) in
     record {
-      short = (λ i. first-long 4 0 (a i ∷ d i ∷ f i ∷ g i ∷ [])) ∙ cut_short_at k 4 m (small c.args.room) c.requires.short four;
+      short = (λ i. first_long 4 0 (a i ∷ d i ∷ f i ∷ g i ∷ [])) ∙ cut_short_at k 4 m (small c.args.room) c.requires.short four;
       suited = suits_more c.args.number c.args.version 4 c.requires.suited (omega arith) (omega arith);
     }

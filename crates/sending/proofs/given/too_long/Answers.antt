@@ -1,6 +1,6 @@
 use Rattle.std.proofs.Common.{◌≡◌, ℕ, ◌<◌, ◌≤◌, List, [], length, get_or, drop, Some, sym, ap, ◌∙◌, arith}
 use Rattle.std.proofs.lemmas.List.{drop_all}
-use Rattle.sending.specs.Given.{part_limit, first-long, texts}
+use Rattle.sending.specs.Given.{part_limit, first_long, texts}
 use Rattle.sending.proofs.Givens.{long_here, long_next, text_at, texts_length, nowhere}
 use Rattle.sending.proofs.given.too_long.Goals as goal
 
@@ -11,7 +11,7 @@ returns-then-part-limit c =
     let t = text_at ps c.loop-i.i nowhere c.loop-i-test.true in
     let i : c.loop-i.i < length (texts ps) = omega (arith, n, c.loop-i-test.true) in
     let l : part_limit (length ps) c.loop-i.i < length (get_or (texts ps) c.loop-i.i []) = omega (arith, ap length t, c.if-part-limit.true, c.limit.ensures) in
-    ap (λ x. Some (length x)) (sym t) ∙ sym (long_here (length ps) c.loop-i.i (texts ps) i l) ∙ sym c.loop-i.invariant ∙ ap (λ m. first-long m 0 (texts ps)) (sym n)
+    ap (λ x. Some (length x)) (sym t) ∙ sym (long_here (length ps) c.loop-i.i (texts ps) i l) ∙ sym c.loop-i.invariant ∙ ap (λ m. first_long m 0 (texts ps)) (sym n)
 
 pub loop-i-preserved : goal.loop-i-preserved
 loop-i-preserved c =
@@ -25,4 +25,4 @@ pub returns : goal.returns
 returns c =
     let ps = c.args.parts.now in
     let i : length (texts ps) ≤ c.loop-i.i = omega (arith, texts_length ps, c.loop-i-test.false) in
-    sym (ap (λ m. first-long m 0 (texts ps)) (texts_length ps) ∙ c.loop-i.invariant ∙ ap (first-long (length ps) c.loop-i.i) (drop_all c.loop-i.i (texts ps) i))
+    sym (ap (λ m. first_long m 0 (texts ps)) (texts_length ps) ∙ c.loop-i.invariant ∙ ap (first_long (length ps) c.loop-i.i) (drop_all c.loop-i.i (texts ps) i))

@@ -11,7 +11,7 @@ returns g c =
     let L = g.L.LineSystem in
     let law = g.met.L.LineSystem in
     let t = trip (L.draws s) p old c.draw.new.line (L.drawn s p (length old)) _ (line_fault (L.depth s)) (L.found s) c.read.result c.args.back.now c.read.new.payload
-    c.type-inv.payload (search rules) c.in_ok-draw.ensures.answer c.in_ok-draw.ensures.line
+    c.type_inv.payload (search rules) c.in_ok-draw.ensures.answer c.in_ok-draw.ensures.line
     (λ ok d. let k = law.drawing s p (length old) d ok in (law.legal s _ p k, law.reading s _ p k))
     c.read.ensures.answer c.read.ensures.payload
     in
