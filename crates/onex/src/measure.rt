@@ -16,7 +16,7 @@ const LEAST_GAP: u32 = 16;
 
 // The levels measured so far, the largest at a zero and the smallest at a one, and one symbol more.
 fn with_symbol(measured: (u32, u32), bit: u8, level: u32) -> (u32, u32)
-    ensures { result ≡ (if nat_eq bit 0 then max measured.0 level, measured.1 else measured.0, min measured.1 level) }
+    ensures { result ≡ (if nat_eq bit 0 then (max measured.0 level, measured.1) else (measured.0, min measured.1 level)) }
 {
     let (zero, one) = measured;
     if bit == 0 {

@@ -10,14 +10,14 @@ loop-k-preserved c =
     let held = held_in c.args.parts.now c.args.bytes.now in
     let k = c.loop-k.k in
     let at = c.loop-k.at in
-    let body = c.part-body-body.result.now in
+    let body = c.part_body-body.result.now in
     let w = front k held in
-    let more = ap (λ (b : List ℕ). w ++ b) c.part-body-body.ensures.value ∙ sym (front_more k held) in
-    let short = c.part-body-body.ensures.short in
+    let more = ap (λ (b : List ℕ). w ++ b) c.part_body-body.ensures.value ∙ sym (front_more k held) in
+    let short = c.part_body-body.ensures.short in
     let most = room_most k in
     let old = c.loop-k.invariant.2 in (
       ap (λ (n : ℕ). n + length body) c.loop-k.invariant.0 ∙ sym (length-append w body) ∙ ap length more,
-      ap (put_mid at (at + length body - at) c.loop-k.out) c.copy-from-slice.ensures.after
+      ap (put_mid at (at + length body - at) c.loop-k.out) c.copy_from_slice.ensures.after
           ∙ write_more w body c.loop-k.out c.args.out.now at c.loop-k.invariant.0 c.loop-k.invariant.1
           ∙ ap (λ (b : List ℕ). b ++ drop (at + length body) c.args.out.now) more,
       omega arith,

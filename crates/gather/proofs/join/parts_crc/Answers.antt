@@ -8,11 +8,11 @@ pub loop-k-preserved : goal.loop-k-preserved
 loop-k-preserved c =
     let held = held_in c.args.parts.now c.args.bytes.now in
     let k = c.loop-k.k in
-    let body = c.part-body.result.now in
-    c.crc32-more-register.ensures.answer
+    let body = c.part_body.result.now in
+    c.crc32_more-register.ensures.answer
     ∙ ap (λ (r : ℕ). feds r body) c.loop-k.invariant
     ∙ sym (feds_append 0xFFFF_FFFF (front k held) body)
-    ∙ ap (feds 0xFFFF_FFFF) (ap (λ (b : List ℕ). front k held ++ b) c.part-body.ensures.value ∙ sym (front_more k held))
+    ∙ ap (feds 0xFFFF_FFFF) (ap (λ (b : List ℕ). front k held ++ b) c.part_body.ensures.value ∙ sym (front_more k held))
 
 pub returns : goal.returns
 unfolding crc

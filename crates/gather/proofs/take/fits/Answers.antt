@@ -7,9 +7,9 @@ pub returns-then-block : goal.returns-then-block
 unfolding fits_slot
 returns-then-block c = grind (arith, nat_tests)
 
-pub returns-then-block-gt-LAST-PART : goal.returns-then-block-gt-LAST-PART
+pub returns-then-block-gt-LAST_PART : goal.returns-then-block-gt-LAST_PART
 unfolding fits_slot
-returns-then-block-gt-LAST-PART c = grind (arith, nat_tests)
+returns-then-block-gt-LAST_PART c = grind (arith, nat_tests)
 
 pub returns-then-block-ne0 : goal.returns-then-block-ne0
 unfolding fits_slot

@@ -27,6 +27,6 @@ returns c =
     let n = listed c.args.faults.now in
     let size = faults_length fs in
     let both = finish_fits t c.args.messages c.args.at fs (λ e. omega arith) (omega arith) in
-    let answer = c.put-faults.ensures.answer ∙ both.0 in
-    let tray = c.put-faults.ensures.tray ∙ both.1 in
+    let answer = c.put_faults.ensures.answer ∙ both.0 in
+    let tray = c.put_faults.ensures.tray ∙ both.1 in
     record { answer = answer; tray = tray; is_whole = finishes t c.args.messages c.args.at fs _ _ answer tray }

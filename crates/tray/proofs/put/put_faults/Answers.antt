@@ -28,6 +28,6 @@ returns c =
     let size = faults_length fs in
     let room : no_room at (fault_section fs) (length t) ≡ false = le-ltb _ _ (omega arith) in
     let one = set_laid t at c.args.faults.now.count (omega arith) ∙ ap (λ k. laid t at (k ∷ [])) (sym n) in
-    let whole = laid_more t _ _ at (at + 1) (length fs ∷ []) (flat_map fault_bytes fs) one refl (omega arith) c.lay-faults.ensures.tray in
-    let end : c.lay-faults.result ≡ at + length (fault_section fs) = omega (arith, c.lay-faults.ensures.end) in
+    let whole = laid_more t _ _ at (at + 1) (length fs ∷ []) (flat_map fault_bytes fs) one refl (omega arith) c.lay_faults.ensures.tray in
+    let end : c.lay_faults.result ≡ at + length (fault_section fs) = omega (arith, c.lay_faults.ensures.end) in
     record { answer = ap Some end ∙ sym (cond-false _ _ _ room); tray = whole ∙ sym (cond-false _ _ _ room) }

@@ -8,9 +8,9 @@ use Rattle.tray.specs.Writing.{message_unfit, message_end, message_put}
 use Rattle.tray.proofs.Writings.{adds}
 use Rattle.tray.proofs.put.put_message.Goals as goal
 
-pub returns-then-size-gt-LENGTH-MOST : goal.returns-then-size-gt-LENGTH-MOST
+pub returns-then-size-gt-LENGTH_MOST : goal.returns-then-size-gt-LENGTH_MOST
 unfolding message_end message_put
-returns-then-size-gt-LENGTH-MOST c =
+returns-then-size-gt-LENGTH_MOST c =
     let m : Message = record { number = c.args.number; version = c.args.version; bytes = c.args.bytes.now } in
     let none : message_unfit m c.args.at (length c.args.tray.now) ≡ true = grind (arith, nat_tests) in
     let tray = sym (cond-true _ _ _ none) in

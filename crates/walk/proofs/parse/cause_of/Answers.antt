@@ -7,21 +7,21 @@ pub returns-then-size-lt-UNCOUNTED : goal.returns-then-size-lt-UNCOUNTED
 unfolding cause_at
 returns-then-size-lt-UNCOUNTED c = grind (arith, nat_tests)
 
-pub returns-then-count-lt-COUNT-LEAST : goal.returns-then-count-lt-COUNT-LEAST
+pub returns-then-count-lt-COUNT_LEAST : goal.returns-then-count-lt-COUNT_LEAST
 unfolding cause_at
-returns-then-count-lt-COUNT-LEAST c = grind (arith, nat_tests)
+returns-then-count-lt-COUNT_LEAST c = grind (arith, nat_tests)
 
-pub returns-then-crc32-word-at : goal.returns-then-crc32-word-at
+pub returns-then-crc32-word_at : goal.returns-then-crc32-word_at
 unfolding cause_at
-returns-then-crc32-word-at c = grind (arith, nat_tests)
+returns-then-crc32-word_at c = grind (arith, nat_tests)
 
 pub returns-then-part-last : goal.returns-then-part-last
 unfolding cause_at
 returns-then-part-last c = grind (arith, nat_tests)
 
-pub returns-then-count-lt-COUNT-LEAST-CHECK : goal.returns-then-count-lt-COUNT-LEAST-CHECK
+pub returns-then-count-lt-COUNT_LEAST_CHECK : goal.returns-then-count-lt-COUNT_LEAST_CHECK
 unfolding cause_at
-returns-then-count-lt-COUNT-LEAST-CHECK c = grind (arith, nat_tests)
+returns-then-count-lt-COUNT_LEAST_CHECK c = grind (arith, nat_tests)
 
 pub returns : goal.returns
 unfolding cause_at

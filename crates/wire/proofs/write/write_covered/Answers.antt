@@ -6,27 +6,27 @@ use Rattle.sending.specs.Model.{means}
 use Rattle.wire.proofs.Wires.{length_block, length_head, length_covered}
 use Rattle.wire.proofs.write.write_covered.Goals as goal
 
-pub lay-body-at-requires : goal.lay-body-at-requires
-lay-body-at-requires c = let b = means c.args.block.now in omega (arith, ap length c.opening-of-first.ensures, length_head b, length_block b)
+pub lay-body_at-requires : goal.lay-body_at-requires
+lay-body_at-requires c = let b = means c.args.block.now in omega (arith, ap length c.opening_of-first.ensures, length_head b, length_block b)
 
-pub lay-check-at-requires : goal.lay-check-at-requires
-lay-check-at-requires c = let b = means c.args.block.now in omega (arith, ap length c.opening-of-first.ensures, length_head b, length_block b, c.lay-body-at.ensures.end)
+pub lay-check_at-requires : goal.lay-check_at-requires
+lay-check_at-requires c = let b = means c.args.block.now in omega (arith, ap length c.opening_of-first.ensures, length_head b, length_block b, c.lay-body_at.ensures.end)
 
-pub lay-check-requires : goal.lay-check-requires
-lay-check-requires c = let b = means c.args.block.now in omega (arith, ap length c.opening-of-first.ensures, length_head b, length_block b, c.lay-body-at.ensures.end, c.lay-check-at.ensures.end)
+pub lay_check-requires : goal.lay_check-requires
+lay_check-requires c = let b = means c.args.block.now in omega (arith, ap length c.opening_of-first.ensures, length_head b, length_block b, c.lay-body_at.ensures.end, c.lay-check_at.ensures.end)
 
 pub returns : goal.returns
 unfolding covered
 returns c =
     let b = means c.args.block.now in
-    let first = c.opening-of-first.ensures in
-    let h : length c.opening-of-first.result ≡ 3 = ap length first ∙ length_head b in
-    let three : c.lay-check.new.out ≡ laid c.args.out.now c.args.at (c.opening-of-first.result ++ (b.body ++ check_bytes b.check)) =
-    laid_three c.args.out.now c.lay-body-at.new.out c.lay-check-at.new.out c.lay-check.new.out c.args.at c.lay-body-at.result c.lay-check-at.result
-    c.opening-of-first.result b.body (check_bytes b.check)
-    c.lay-body-at.ensures.out c.lay-body-at.ensures.end c.lay-check-at.ensures.out c.lay-check-at.ensures.end c.lay-check.ensures.out
-    (omega (arith, h, length_block b, c.lay-body-at.ensures.end, c.lay-check-at.ensures.end)) in
+    let first = c.opening_of-first.ensures in
+    let h : length c.opening_of-first.result ≡ 3 = ap length first ∙ length_head b in
+    let three : c.lay_check.new.out ≡ laid c.args.out.now c.args.at (c.opening_of-first.result ++ (b.body ++ check_bytes b.check)) =
+    laid_three c.args.out.now c.lay-body_at.new.out c.lay-check_at.new.out c.lay_check.new.out c.args.at c.lay-body_at.result c.lay-check_at.result
+    c.opening_of-first.result b.body (check_bytes b.check)
+    c.lay-body_at.ensures.out c.lay-body_at.ensures.end c.lay-check_at.ensures.out c.lay-check_at.ensures.end c.lay_check.ensures.out
+    (omega (arith, h, length_block b, c.lay-body_at.ensures.end, c.lay-check_at.ensures.end)) in
     record {
       out = three ∙ ap (laid c.args.out.now c.args.at) (ap (λ l. l ++ (b.body ++ check_bytes b.check)) first ∙ sym (append_assoc (head b) b.body (check_bytes b.check)));
-      end = omega (arith, h, length_covered b, c.lay-body-at.ensures.end, c.lay-check-at.ensures.end, c.lay-check.ensures.end);
+      end = omega (arith, h, length_covered b, c.lay-body_at.ensures.end, c.lay-check_at.ensures.end, c.lay_check.ensures.end);
     }

@@ -9,4 +9,4 @@ pub returns-in-Gathering : goal.returns-in-Gathering
 returns-in-Gathering c =
     let old = c.args.self.now in
     let g = c.in-Gathering in
-    c.count-held.ensures ∙ count_any 4 g.parts [] old.bytes ∙ ap (λ (z : State). parts_held (slot_in z old.bytes)) (sym g.is)
+    c.count_held.ensures ∙ count_any 4 g.parts [] old.bytes ∙ ap (λ (z : State). parts_held (slot_in z old.bytes)) (sym g.is)

@@ -15,8 +15,8 @@ returns-in-Gathering c =
       same = refl;
     }
 
-pub returns-in-default : goal.returns-in-default
-returns-in-default c =
+pub returns-in_default : goal.returns-in_default
+returns-in_default c =
     let old = c.args.self.now in
     let g = c.in-Gathering in
     let full = c.if-complete.ensures ∙ full_any g.last g.parts [] old.bytes in

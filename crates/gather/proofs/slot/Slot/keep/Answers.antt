@@ -18,6 +18,6 @@ returns c =
       number = c.renew.ensures.number;
       few = few_kept t b old.state _ _ _ c.requires.few c.renew.ensures.state c.note.ensures.state;
       parts =
-          kept_is t b bss old.state _ _ _ _ within four refl c.requires.fits c.put-front.ensures c.renew.ensures.state c.note.ensures.four c.note.ensures.state
+          kept_is t b bss old.state _ _ _ _ within four refl c.requires.fits c.put_front.ensures c.renew.ensures.state c.note.ensures.four c.note.ensures.state
           ∙ ap (λ (z : List (List ℕ)). with_part t b (slot_in old.state z)) c.renew.ensures.bytes;
     }

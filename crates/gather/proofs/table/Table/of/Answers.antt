@@ -16,8 +16,8 @@ loop-i-preserved c =
       length-set xs i s' ∙ c.loop-i.invariant.2,
     )
 
-pub invariant-of-result : goal.invariant-of-result
-invariant-of-result c = (c.loop-i.invariant.2, (c.requires, tt))
+pub invariant_of-result : goal.invariant_of-result
+invariant_of-result c = record { long = c.loop-i.invariant.2; few = c.requires }
 
 pub returns : goal.returns
 returns c =
