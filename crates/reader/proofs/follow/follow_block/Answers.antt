@@ -31,7 +31,7 @@ returns-in-NotWatched c =
       next = λ old p room s.
           let quiet : answer_to w t b p.table ≡ silent = ap (λ h. cond h (answer t b (p.table b.number)) silent) off in
           let one : ◌≡◌ {A = ℕ} (cond (watched w b.number) 0 1) 1 = ap (λ h. cond h 0 1) off in
-          let sum = c.saturating-add-progress.ensures in
+          let sum = c.saturating_add-progress.ensures in
           let few = room.few_skips in
           let is = s.skipped_is in
           told_nothing w t c.args.place b old c.args.tray.now c.args.progress.now _ T _ p s fits c.arrive.ensures.next quiet refl refl refl (omega arith);
@@ -59,7 +59,7 @@ returns-in-Message c =
       next = λ old p room s.
           let given : answer_to w t b p.table ≡ handed m = ap (answer_to w t b) (sym s.table_is) ∙ sym said_m in
           told_message w t c.args.place b old c.args.tray.now _ c.args.progress.now _ T _ p m c.requires.good room s fits c.arrive.ensures.next given heard refl refl short
-          (subst (λ (x : List ℕ). HandsOver c.args.tray.now c.args.progress.now (record { number = b.number; version = b.version; bytes = x }) c.hand-over.new.tray c.hand-over.new.progress) same_bytes c.hand-over.ensures.next);
+          (subst (λ (x : List ℕ). HandsOver c.args.tray.now c.args.progress.now (record { number = b.number; version = b.version; bytes = x }) c.hand_over.new.tray c.hand_over.new.progress) same_bytes c.hand_over.ensures.next);
       same = c.arrive.ensures.same;
     }
 

@@ -18,15 +18,15 @@ returns-in-Some c =
             let said : Some c.in-Some.end ≡ Some (c.args.progress.now.at + length (message_bytes m)) = c.in-Some.ensures.answer ∙ fits in
             let end : c.in-Some.end ≡ c.args.progress.now.at + length (message_bytes m) = cc in
             let push = length_push ms m in
-            let sum = c.saturating-add-progress.ensures in
-            (c.put-message.ensures.stands_behind old ms is at short room, omega arith, omega arith);
+            let sum = c.saturating_add-progress.ensures in
+            (c.put_message.ensures.stands_behind old ms is at short room, omega arith, omega arith);
         faults_stay = refl;
         skipped_stays = refl;
       };
     }
 
-pub returns-in-default : goal.returns-in-default
-returns-in-default c =
+pub returns-in_default : goal.returns-in_default
+returns-in_default c =
     let m : Message = record { number = c.args.number; version = c.args.version; bytes = c.args.bytes.now } in
     record {
       next = record {
@@ -34,7 +34,7 @@ returns-in-default c =
             let more = behind_more ms m in
             let long = ap length is ∙ holding_length old ms (omega arith) in
             let fits = message_fits m c.args.progress.now.at (length c.args.tray.now) short (omega arith) in
-            absurd (c.in-default.not-Some _ (c.put-message.ensures.answer ∙ fits));
+            absurd (c.in_default.not-Some _ (c.put_message.ensures.answer ∙ fits));
         faults_stay = refl;
         skipped_stays = refl;
       };

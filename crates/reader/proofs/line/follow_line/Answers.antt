@@ -20,8 +20,8 @@ loop-entry-init c =
     let good : AllByRecursion Good (entries payload) = entries_good payload c.requires.short (λ i. search rules) in
     (tt, tt, refl, (at_start T, begins c.args.tray.now c.new-progress.result T g.0 g.1 g.2 g.3, ap (λ l. follow_all (watching c.args.table.now) c.args.frame l (at_start T)) is, subst (AllByRecursion Good) (sym is) good, record { eight = omega (arith, few.0); nine = omega (arith, few.1); skips = omega (arith, few.0) }))
 
-pub follow-entry-requires : goal.follow-entry-requires
-follow-entry-requires c = record { good = (subst (AllByRecursion Good) c.in-Some.ensures.steps.entry c.loop-entry.invariant.3.3).0 }
+pub follow_entry-requires : goal.follow_entry-requires
+follow_entry-requires c = record { good = (subst (AllByRecursion Good) c.in-Some.ensures.steps.entry c.loop-entry.invariant.3.3).0 }
 
 pub loop-entry-preserved : goal.loop-entry-preserved
 loop-entry-preserved c =
@@ -34,14 +34,14 @@ loop-entry-preserved c =
     let inv = c.loop-entry.invariant.3 in
     let p = inv.0 in
     let left : Left p (e ∷ rest) = subst (Left p) first inv.4 in
-    let stood = c.follow-entry.ensures.next old p (room_for old e rest p c.requires.room left) inv.1 in
+    let stood = c.follow_entry.ensures.next old p (room_for old e rest p c.requires.room left) inv.1 in
     let watch = c.loop-entry.invariant.2 in (
       tt,
       tt,
-      c.follow-entry.ensures.same ∙ watch,
+      c.follow_entry.ensures.same ∙ watch,
       (
         follow W t e p,
-        subst (λ (ws : List ℕ). Stands old c.follow-entry.new.tray c.follow-entry.new.progress (gathered c.follow-entry.new.table) (follow ws t e p)) watch stood,
+        subst (λ (ws : List ℕ). Stands old c.follow_entry.new.tray c.follow_entry.new.progress (gathered c.follow_entry.new.table) (follow ws t e p)) watch stood,
         sym (ap (λ l. follow_all W t l p) first) ∙ inv.2,
         (subst (AllByRecursion Good) first inv.3).1,
         left_after W t e rest p left,
@@ -52,7 +52,7 @@ pub returns : goal.returns
 returns c =
     let W = watching c.args.table.now in
     let t = c.args.frame in
-    let none : ahead c.loop-entry.walk ≡ [] = c.in-default.ensures.steps.entry.0 in
+    let none : ahead c.loop-entry.walk ≡ [] = c.in_default.ensures.steps.entry.0 in
     let inv = c.loop-entry.invariant.3 in
     let p = inv.0 in
     record {

@@ -14,17 +14,17 @@ returns-in-Some c =
     let old = c.args.tray.now in
     let w = watching c.args.table.now in
     let T = gathered c.args.table.now in
-    let T' = gathered c.follow-line-progress.new.table in
+    let T' = gathered c.follow_line-progress.new.table in
     let within : n ≤ 60 = subst (λ (o : Option ℕ). IfSome o (λ n. n ≤ 60)) c.in-Some.is c.requires.within in
     let full : length payload ≡ 60 = search rules in
     let all : n - 0 ≡ n = omega arith in
     let part : take (n - 0) payload ≡ take n payload = ap (λ k. take k payload) all in
-    let stands = subst (λ (p : List ℕ). LineStands old c.follow-line-progress.new.tray c.follow-line-progress.result T' (followed w c.args.frame (Some p) T)) part c.follow-line-progress.ensures.stands in
+    let stands = subst (λ (p : List ℕ). LineStands old c.follow_line-progress.new.tray c.follow_line-progress.result T' (followed w c.args.frame (Some p) T)) part c.follow_line-progress.ensures.stands in
     let size : n ≡ length (take n payload) = sym (length-take-le n payload (omega arith)) in
     let taken = c.close.ensures (Some (take n payload)) old T' (followed w c.args.frame (Some (take n payload)) T) stands c.requires.room size in
     record {
       taken = subst (λ (o : Option ℕ). Taken (seen o payload) old c.close.new.tray c.close.result T' (followed w c.args.frame (seen o payload) T)) (sym c.in-Some.is) taken;
-      same = c.follow-line-progress.ensures.same;
+      same = c.follow_line-progress.ensures.same;
     }
 
 pub returns-in-None : goal.returns-in-None

@@ -28,46 +28,51 @@ loop-i-init c =
     let k : length s.bytes ≡ 60 = search rules in
     going_none s.size s.bytes s.fill.mark (wants c.args.group.now) (omega (arith, s.room)) s.within
 
-pub put-block-requires : goal.put-block-requires
-put-block-requires c = record { room = c.args.self.now.room; within = c.loop-i.invariant.within }
+pub put_block-requires : goal.put_block-requires
+put_block-requires c = record { room = c.args.self.now.room; within = c.loop-i.invariant.within }
 
-pub invariant-of-self : goal.invariant-of-self
-invariant-of-self c =
+pub invariant_of-self : goal.invariant_of-self
+invariant_of-self c =
     let s = c.args.self.now in
     let k : length s.bytes ≡ 60 = search rules in
     let b : take s.fill.mark c.loop-i.bytes ≡ take s.fill.mark s.bytes =
     going_back s.size s.bytes s.fill.mark (wants c.args.group.now) (omega (arith, s.room)) c.loop-i.i c.loop-i.guard.fill.now.mark c.loop-i.bytes c.loop-i.invariant in
-    let e : take c.drop-guard.new.self.0.mark c.put-block.new.bytes ≡ take s.fill.mark s.bytes =
-    ap (λ n. take n c.put-block.new.bytes) c.drop-guard.ensures ∙ ap (take s.fill.mark) c.in-err-put-block.ensures.effect.0 ∙ b in
-    (omega (arith, s.begun, c.drop-guard.ensures), (omega (arith, s.within, c.drop-guard.ensures), (s.room, (filled_same (take s.fill.mark s.bytes) (take c.drop-guard.new.self.0.mark c.put-block.new.bytes) e s.holds, tt))))
+    let e : take c.drop-guard.new.self.0.mark c.put_block.new.bytes ≡ take s.fill.mark s.bytes =
+    ap (λ n. take n c.put_block.new.bytes) c.drop-guard.ensures ∙ ap (take s.fill.mark) c.in_err-put_block.ensures.effect.0 ∙ b in
+    record {
+      begun = omega (arith, s.begun, c.drop-guard.ensures);
+      within = omega (arith, s.within, c.drop-guard.ensures);
+      room = s.room;
+      holds = filled_same (take s.fill.mark s.bytes) (take c.drop-guard.new.self.0.mark c.put_block.new.bytes) e s.holds;
+    }
 
-pub returns-in-err-put-block : goal.returns-in-err-put-block
-returns-in-err-put-block c =
+pub returns-in_err-put_block : goal.returns-in_err-put_block
+returns-in_err-put_block c =
     let s = c.args.self.now in
     let k : length s.bytes ≡ 60 = search rules in
     let ws = wants c.args.group.now in
-    let p = err_from_is_err_and c.from-residual.result c.from-residual.ensures.1 in
-    let r : c.from-residual.result ≡ Err c.in-err-put-block.field-0.0 = p.1 ∙ ap Err p.2 in
+    let p = err_from_is_err_and c.from_residual.result c.from_residual.ensures.1 in
+    let r : c.from_residual.result ≡ Err c.in_err-put_block.field-0.0 = p.1 ∙ ap Err p.2 in
     let room : s.size ≤ length s.bytes = omega (arith, s.room) in
     let lt = within_group c.args.group.now c.loop-i.i c.loop-i-test.true in
     let w = want c.index-group-i.result.now in
     let at = at_place c.args.group.now c.loop-i.i c.index-group-i.result c.loop-i-test.true c.index-group-i.is in
-    let no = c.in-err-put-block.ensures.answer in
+    let no = c.in_err-put_block.ensures.answer in
     let b : take s.fill.mark c.loop-i.bytes ≡ take s.fill.mark s.bytes =
     going_back s.size s.bytes s.fill.mark ws room c.loop-i.i c.loop-i.guard.fill.now.mark c.loop-i.bytes c.loop-i.invariant in
-    let e : take c.drop-guard.new.self.0.mark c.put-block.new.bytes ≡ take s.fill.mark s.bytes =
-    ap (λ n. take n c.put-block.new.bytes) c.drop-guard.ensures ∙ ap (take s.fill.mark) c.in-err-put-block.ensures.effect.0 ∙ b in
+    let e : take c.drop-guard.new.self.0.mark c.put_block.new.bytes ≡ take s.fill.mark s.bytes =
+    ap (λ n. take n c.put_block.new.bytes) c.drop-guard.ensures ∙ ap (take s.fill.mark) c.in_err-put_block.ensures.effect.0 ∙ b in
     let none : put_blocks s.size s.fill.mark ws ≡ [] =
-    refused_blocks s.size s.bytes s.fill.mark ws room c.loop-i.i c.loop-i.guard.fill.now.mark c.loop-i.bytes c.loop-i.invariant lt w at c.in-err-put-block.field-0.0 no in
-    let a : c.from-residual.result ≡ put_answer s.size s.fill.mark 0 ws =
-    r ∙ refused_answer s.size s.bytes s.fill.mark ws room c.loop-i.i c.loop-i.guard.fill.now.mark c.loop-i.bytes c.loop-i.invariant lt w at c.in-err-put-block.field-0.0 no in
+    refused_blocks s.size s.bytes s.fill.mark ws room c.loop-i.i c.loop-i.guard.fill.now.mark c.loop-i.bytes c.loop-i.invariant lt w at c.in_err-put_block.field-0.0 no in
+    let a : c.from_residual.result ≡ put_answer s.size s.fill.mark 0 ws =
+    r ∙ refused_answer s.size s.bytes s.fill.mark ws room c.loop-i.i c.loop-i.guard.fill.now.mark c.loop-i.bytes c.loop-i.invariant lt w at c.in_err-put_block.field-0.0 no in
     record {
       answer = a;
-      whole_or_not_at_all = whole_or_not (opened s) ws s.within c.from-residual.result a;
-      frame = rw r (refused_frame s.size s.bytes s.fill.mark ws room c.loop-i.i c.loop-i.guard.fill.now.mark c.loop-i.bytes c.loop-i.invariant lt w at c.in-err-put-block.field-0.0 no
-          c.put-block.new.bytes c.in-err-put-block.ensures.effect.0 c.drop-guard.new.self.0.mark c.drop-guard.ensures);
-      blocks = λ bs h. subst (λ q. Holds (take c.drop-guard.new.self.0.mark c.put-block.new.bytes) (bs ++ q)) (sym none)
-          (holds_same (take s.fill.mark s.bytes) (take c.drop-guard.new.self.0.mark c.put-block.new.bytes) bs e h);
+      whole_or_not_at_all = whole_or_not (opened s) ws s.within c.from_residual.result a;
+      frame = rw r (refused_frame s.size s.bytes s.fill.mark ws room c.loop-i.i c.loop-i.guard.fill.now.mark c.loop-i.bytes c.loop-i.invariant lt w at c.in_err-put_block.field-0.0 no
+          c.put_block.new.bytes c.in_err-put_block.ensures.effect.0 c.drop-guard.new.self.0.mark c.drop-guard.ensures);
+      blocks = λ bs h. subst (λ q. Holds (take c.drop-guard.new.self.0.mark c.put_block.new.bytes) (bs ++ q)) (sym none)
+          (holds_same (take s.fill.mark s.bytes) (take c.drop-guard.new.self.0.mark c.put_block.new.bytes) bs e h);
     }
 
 pub loop-i-preserved : goal.loop-i-preserved
@@ -75,29 +80,26 @@ loop-i-preserved c =
     let s = c.args.self.now in
     let k : length s.bytes ≡ 60 = search rules in
     let w = want c.index-group-i.result.now in
-    let ok = c.in-ok-put-block.ensures.answer in
-    let there = tried_there s.size c.loop-i.guard.fill.now.mark c.loop-i.i w c.in-ok-put-block.field-0 ok in
+    let ok = c.in_ok-put_block.ensures.answer in
+    let there = tried_there s.size c.loop-i.guard.fill.now.mark c.loop-i.i w c.in_ok-put_block.field-0 ok in
     let rule = kept w.sending c.index-group-i.result.now.sending.now.rule in
     going_more s.size s.bytes s.fill.mark (wants c.args.group.now) (omega (arith, s.room)) c.loop-i.i c.loop-i.guard.fill.now.mark c.loop-i.bytes c.loop-i.invariant
     (within_group c.args.group.now c.loop-i.i c.loop-i-test.true) w (at_place c.args.group.now c.loop-i.i c.index-group-i.result c.loop-i-test.true c.index-group-i.is)
-    c.in-ok-put-block.field-0 ok (of_a_sending w rule there) c.put-block.new.fill.mark c.put-block.new.bytes
-    c.in-ok-put-block.ensures.effect.0 c.in-ok-put-block.ensures.effect.1 c.in-ok-put-block.ensures.effect.2
+    c.in_ok-put_block.field-0 ok (of_a_sending w rule there) c.put_block.new.fill.mark c.put_block.new.bytes
+    c.in_ok-put_block.ensures.effect.0 c.in_ok-put_block.ensures.effect.1 c.in_ok-put_block.ensures.effect.2
 
-pub invariant-of-self-2 : goal.invariant-of-self-2
-invariant-of-self-2 c =
+pub invariant_of-self-2 : goal.invariant_of-self-2
+invariant_of-self-2 c =
     let s = c.args.self.now in
     let k : length s.bytes ≡ 60 = search rules in
     let f : Filled (take c.loop-i.guard.fill.now.mark c.loop-i.bytes) =
-    going_filled s.size s.bytes s.fill.mark (wants c.args.group.now) (omega (arith, s.room)) c.loop-i.i c.loop-i.guard.fill.now.mark c.loop-i.bytes c.loop-i.invariant s.holds in (
-      omega (arith, s.begun, c.loop-i.invariant.place, c.keep.ensures),
-      (
-        omega (arith, c.loop-i.invariant.within, c.keep.ensures),
-        (
-          s.room,
-          (filled_same (take c.loop-i.guard.fill.now.mark c.loop-i.bytes) (take c.keep.new.self.0.mark c.loop-i.bytes) (ap (λ n. take n c.loop-i.bytes) c.keep.ensures) f, tt),
-        ),
-      ),
-    )
+    going_filled s.size s.bytes s.fill.mark (wants c.args.group.now) (omega (arith, s.room)) c.loop-i.i c.loop-i.guard.fill.now.mark c.loop-i.bytes c.loop-i.invariant s.holds in
+    record {
+      begun = omega (arith, s.begun, c.loop-i.invariant.place, c.keep.ensures);
+      within = omega (arith, c.loop-i.invariant.within, c.keep.ensures);
+      room = s.room;
+      holds = filled_same (take c.loop-i.guard.fill.now.mark c.loop-i.bytes) (take c.keep.new.self.0.mark c.loop-i.bytes) (ap (λ n. take n c.loop-i.bytes) c.keep.ensures) f;
+    }
 
 pub returns : goal.returns
 returns c =
