@@ -72,6 +72,9 @@ def own_names():
         for m in re.finditer(r"(?m)^ *(?:pub )?(?:unfoldable |abbrev )?(?:record|data) ([^\s(){}:]+)", text):
             if "-" in m[1]:
                 new[m[1]] = camel(m[1])
+        for m in re.finditer(r"\bas ([^\s(){}.;,]+)", text):
+            if DASHED.match(m[1]):
+                new[m[1]] = m[1].replace("-", "_")
         # what a let, a lambda or a pattern binds
         for m in re.finditer(r"\blet ([^\s(){}.;,:=]+)|λ ([^.]*)\.|\(((?:[^\s(){}.;,:=]+ )+): ", text):
             for name in (m[1] or m[2] or m[3]).replace("(", " ").split():
@@ -79,6 +82,9 @@ def own_names():
                     new[name] = name.replace("-", "_")
     for path in texts(".rt"):
         text = bare(read(path))
+        for m in re.finditer(r"\bas ([^\s(){}.;,]+)", text):
+            if DASHED.match(m[1]):
+                new[m[1]] = m[1].replace("-", "_")
         for m in LABEL.finditer(text):
             rust.add(m[1])
         for m in RUSTNAME.finditer(text):

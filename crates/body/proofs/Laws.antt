@@ -1,5 +1,5 @@
 -- From the laws of a format: what an answer accepts, and where it refuses.
-use Rattle.std.proofs.Common.{◌≡◌, ℕ, ◌≤◌, List, Some, None, Ok, Err, Option, Result, sym, refl, ap, ◌∙◌, subst, arith}
+use Rattle.std.proofs.Common.{◌≡◌, ℕ, ◌≤◌, None, Ok, Option, Result, sym, ◌∙◌, subst, arith}
 use Rattle.refusal.specs.declared.Refusal.{Refusal}
 use Rattle.refusal.specs.declared.Refusal.TheVariants.{Body}
 use Rattle.buffers.specs.Places.{unless, Smallest, at, nowhere}

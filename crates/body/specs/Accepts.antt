@@ -1,16 +1,16 @@
 -- A body that is nowhere wrong is a writing of what it says: its bytes, with its own reserved bits.
-use Rattle.std.specs.Prelude.{◌≡◌, ℕ, ◌+◌, ◌-◌, ◌*◌, ◌/◌, ◌%◌, ◌^◌, ◌<◌, ◌≤◌, Bool, true, false, cond, not, List, [], ◌∷◌, ◌++◌, length, drop, Some, None, Option, nat_le, slice_index, slice_index_or, refl}
-use Rattle.std.proofs.Common.{sym, ap, subst, ◌∙◌, append_assoc, ⊎_elim, arith}
+use Rattle.std.specs.Prelude.{◌≡◌, ℕ, ◌+◌, ◌-◌, ◌*◌, ◌/◌, ◌%◌, ◌^◌, ◌<◌, ◌≤◌, Bool, true, false, cond, List, [], ◌∷◌, ◌++◌, length, drop, Some, None, nat_le, slice_index, slice_index_or, refl}
+use Rattle.std.proofs.Common.{sym, ap, ◌∙◌, append_assoc, arith}
 use Rattle.std.proofs.lemmas.List.{length-take-le, length-drop, take-append-drop, drop_all, drop_more, drop-drop}
-use Rattle.std.proofs.lemmas.Bool.{ltb-false, leb-true, leb-false, le-ltb, lt-leb, not-false, not_from_true, cases_Bool}
-use Rattle.buffers.specs.Places.{Bytes, wrong, part, shifted, present}
+use Rattle.std.proofs.lemmas.Bool.{ltb-false, leb-true, leb-false, le-ltb, lt-leb, not-false, not_from_true}
+use Rattle.buffers.specs.Places.{Bytes, part, shifted, present}
 use Rattle.buffers.proofs.Steps.{skip, passes, not_wrong, both_none, shifted_none}
 use Rattle.body.specs.declared.message.Time.{Time}
 use Rattle.body.specs.declared.message.Channel.{Channel}
 use Rattle.body.specs.Identifiers.{length_fits, misspelt}
-use Rattle.body.specs.Reading.{word_at, millis_at, time_at, time_fault, has_content, has_channel, has_until, type_of, size_of, id_at, id_of, until_of, content_of, channel_at, end_of, channel_of, until_fault, id_fault, content_fault, channel_fault, content_id_fault, content_id_of, presentation_fault, presentation_of}
-use Rattle.body.specs.Messages.{Identified, Said, content_id, presentation, plain}
-use Rattle.body.specs.Format.{Reserved, Fitting, ones, flag, flags_byte, time_bytes, until_bytes, head_bytes, content_bytes, channel_bytes, time_wrong, until_wrong, content_wrong, channel_wrong, neither, content_id_bytes, content_id_wrong, presentation_bytes, presentation_wrong}
+use Rattle.body.specs.Reading.{millis_at, time_at, time_fault, has_content, has_channel, has_until, type_of, size_of, id_at, id_of, until_of, content_of, channel_at, end_of, channel_of, until_fault, id_fault, content_fault, channel_fault, content_id_fault, content_id_of, presentation_fault, presentation_of}
+use Rattle.body.specs.Messages.{Identified}
+use Rattle.body.specs.Format.{Reserved, Fitting, flag, flags_byte, time_bytes, until_bytes, content_bytes, channel_bytes, time_wrong, until_wrong, content_wrong, channel_wrong, neither, content_id_bytes, content_id_wrong, presentation_bytes, presentation_wrong}
 use Rattle.body.specs.Laws.{Writing}
 
 -- ---- bytes in a row

@@ -1,6 +1,6 @@
 -- Numbers as bytes and back, whatever stands in the reserved bits r beside them.
-use Rattle.std.specs.Prelude.{◌≡◌, ℕ, ◌+◌, ◌*◌, ◌/◌, ◌%◌, ◌^◌, ◌<◌, ◌≤◌, refl}
-use Rattle.std.proofs.Common.{sym, ap, ◌∙◌, arith}
+use Rattle.std.specs.Prelude.{◌≡◌, ℕ, ◌+◌, ◌*◌, ◌/◌, ◌%◌, ◌≤◌}
+use Rattle.std.proofs.Common.{arith}
 
 pub word_back : (n : ℕ) → n / 256 * 256 + n % 256 ≡ n
 word_back n = omega arith

@@ -1,5 +1,5 @@
 -- Identifiers, by type, length and characters. Which characters an Ad-ID may have is a parameter, `ok`.
-use Rattle.std.specs.Prelude.{ℕ, ◌+◌, Bool, true, false, cond, ◌&&◌, ◌||◌, List, [], ◌∷◌, Some, None, Option, ◌==◌, nat_le}
+use Rattle.std.specs.Prelude.{ℕ, ◌+◌, Bool, cond, ◌&&◌, ◌||◌, List, [], ◌∷◌, Some, None, Option, ◌==◌, nat_le}
 use Rattle.buffers.specs.Places.{part}
 
 -- from low to high, both included

@@ -1,6 +1,5 @@
 -- The laws of a kind, in the subject's words.
 use Rattle.std.specs.Prelude.{◌≡◌, ℕ, ◌≤◌, List, None, Ok, Err, Option, Result}
-use Rattle.buffers.specs.Places.{Bytes}
 use Rattle.refusal.specs.declared.Refusal.{Refusal}
 use Rattle.refusal.specs.declared.Refusal.TheVariants.{Body}
 use Rattle.body.specs.Messages.{Said}

@@ -1,15 +1,15 @@
 -- The place that a content ID body is refused at is the smallest at which it is wrong.
-use Rattle.std.specs.Prelude.{◌≡◌, ℕ, zero, suc, ◌+◌, ◌-◌, ◌<◌, ◌≤◌, Bool, true, false, cond, not, ◌⊎◌, List, [], ◌∷◌, length, drop, Some, None, Option, ◌==◌, ◌≢◌, nat_eq, nat_lt, slice_index, slice_index_or, refl}
-use Rattle.std.proofs.Common.{sym, ap, subst, ◌∙◌, inl, inr, ⊎_elim, arith}
+use Rattle.std.specs.Prelude.{◌≡◌, ℕ, ◌+◌, ◌<◌, ◌≤◌, Bool, true, false, cond, List, length, drop, Some, None, Option, ◌==◌, ◌≢◌, nat_eq, nat_lt, slice_index, slice_index_or}
+use Rattle.std.proofs.Common.{sym, ap, subst, ◌∙◌, ⊎_elim, arith}
 use Rattle.std.proofs.lemmas.List.{length-take, length-drop, get_or-take, get_or-drop}
-use Rattle.std.proofs.lemmas.Bool.{cases_lt, cases_Bool, cond-true, cond-false, ltb-true, ltb-false, eqb-true, eqb-false, not-true, not-false, lt-ltb, le-ltb, eq-eqb, not_from_true, not_from_false}
-use Rattle.buffers.specs.Places.{wrong, part, or_else, shifted, Smallest, at, nowhere}
-use Rattle.buffers.proofs.Steps.{skip, stop, only, passes, fails, part_true, part_false, cases_option}
+use Rattle.std.proofs.lemmas.Bool.{cases_lt, cases_Bool, eqb-true, lt-ltb, le-ltb, eq-eqb, not_from_true, not_from_false}
+use Rattle.buffers.specs.Places.{wrong, part, shifted, Smallest, at, nowhere}
+use Rattle.buffers.proofs.Steps.{skip, stop, passes, fails, part_true, cases_option}
 use Rattle.body.specs.Identifiers.{length_fits, wrong_from, misspelt}
 use Rattle.body.specs.Reading.{has_content, has_channel, has_until, type_of, size_of, id_at, id_of, channel_at, end_of, until_fault, id_fault, content_fault, channel_fault, content_part_fault, content_id_fault, presentation_fault, millis_at, time_fault}
 use Rattle.body.specs.Faults.{ContentIdFaulty, lacks, nothing, misfit, late, character, after, PresentationFaulty, time_lacks, time_late, time_after}
-use Rattle.body.specs.Spelling.{good_all, FirstBad, bad_first}
-use Rattle.body.specs.Tests.{channel_part, end_part, content_fault_at_id, content_fault_until, empty_fault, flags_fault, fault_at_content, fault_at_channel, fault_at_end}
+use Rattle.body.specs.Spelling.{good_all, bad_first}
+use Rattle.body.specs.Tests.{channel_part, end_part, content_fault_at_id, empty_fault, flags_fault, fault_at_content, fault_at_channel, fault_at_end}
 
 module _ (ok : ℕ → Bool) where
   -- ---- the smallest place, test by test

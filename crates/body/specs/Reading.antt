@@ -1,12 +1,12 @@
 -- What a body says, and the place at which it is wrong: by its bytes.
-use Rattle.std.specs.Prelude.{ℕ, ◌+◌, ◌*◌, ◌/◌, ◌%◌, Bool, cond, not, List, [], ◌∷◌, length, take, drop, Some, None, Option, Result, nat_le, nat_lt, slice_index}
+use Rattle.std.specs.Prelude.{ℕ, ◌+◌, ◌*◌, ◌/◌, ◌%◌, Bool, cond, not, List, [], ◌∷◌, length, take, drop, None, Option, Result, nat_le, nat_lt, slice_index}
 use Rattle.buffers.specs.Places.{wrong, part, first, shifted, present, unless}
 use Rattle.refusal.specs.declared.Refusal.{Refusal}
 use Rattle.refusal.specs.declared.Refusal.TheVariants.{Body}
 use Rattle.body.specs.declared.message.Time.{Time}
 use Rattle.body.specs.declared.message.Channel.{Channel}
 use Rattle.body.specs.Identifiers.{length_fits, misspelt}
-use Rattle.body.specs.Messages.{Identified, Said, content_id, presentation, plain}
+use Rattle.body.specs.Messages.{Identified, Said, content_id, presentation}
 
 -- a body is refused at its wrong place, else it says something
 abbrev pub reading : {A : Type 0} → (List ℕ → Option ℕ) → (List ℕ → A) → List ℕ → Result A Refusal

@@ -1,20 +1,20 @@
 -- Each writing of a message, whatever stands in the reserved bits, is read as that message.
-use Rattle.std.specs.Prelude.{◌≡◌, ℕ, ◌+◌, ◌-◌, ◌*◌, ◌/◌, ◌%◌, ◌^◌, ◌<◌, ◌≤◌, Bool, true, false, cond, not, leb, List, [], ◌∷◌, ◌++◌, length, take, drop, is_some, Some, None, Ok, Option, nat_le, slice_index, slice_index_or}
+use Rattle.std.specs.Prelude.{◌≡◌, ℕ, ◌+◌, ◌-◌, ◌%◌, ◌<◌, ◌≤◌, Bool, true, false, cond, leb, List, ◌++◌, length, take, drop, is_some, Some, None, Ok, Option, nat_le, slice_index, slice_index_or}
 use Rattle.std.proofs.Math.Path.{refl, ap}
 use Rattle.std.proofs.Common.{sym, ◌∙◌, add-zero}
 use native.Mathlib.Omega.{arith}
 use Rattle.std.proofs.lemmas.List.{length-drop, length-append, take_at, drop_at, drop-drop, get_or-drop}
 use Rattle.std.proofs.lemmas.Bool.{ltb-false, le-ltb, le-leb, lt-leb, not-false}
 use Rattle.refusal.specs.declared.Refusal.TheVariants.{Body}
-use Rattle.buffers.specs.Places.{wrong, part, or_else, shifted, present}
+use Rattle.buffers.specs.Places.{part, shifted, present}
 use Rattle.buffers.proofs.Steps.{skip, passes, part_true, part_false, present_true, present_false, done, not_wrong, both_none, shifted_none}
 use Rattle.body.specs.declared.message.Time.{Time}
 use Rattle.body.specs.declared.message.Channel.{Channel}
 use Rattle.body.specs.Identifiers.{length_fits, misspelt}
 use Rattle.body.specs.Reading.{reading, time_at, time_fault, millis_at, has_content, has_channel, has_until, type_of, size_of, id_at, id_of, until_of, content_of, channel_at, end_of, channel_of, until_fault, id_fault, content_fault, channel_fault, content_part_fault, content_id_fault, content_id_of, presentation_fault, presentation_of}
 use Rattle.body.specs.Messages.{Identified, Said, content_id, presentation, plain}
-use Rattle.body.specs.Format.{Reserved, Fitting, flag, flags_byte, time_bytes, until_bytes, head_bytes, content_bytes, channel_bytes, time_wrong, until_wrong, content_wrong, channel_wrong, content_id_bytes, content_id_wrong, presentation_bytes, presentation_wrong}
-use Rattle.body.specs.Tests.{channel_part, end_part, content_fault_at_id, fault_at_end}
+use Rattle.body.specs.Format.{Reserved, Fitting, flags_byte, time_bytes, channel_bytes, time_wrong, until_wrong, content_wrong, channel_wrong, content_id_bytes, content_id_wrong, presentation_bytes, presentation_wrong}
+use Rattle.body.specs.Tests.{channel_part, content_fault_at_id, fault_at_end}
 use Rattle.body.specs.Digits.{word_back, seconds_back, millis_back, major_back, minor_back}
 
 -- ---- the channel

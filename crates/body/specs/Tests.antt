@@ -1,11 +1,11 @@
 -- The tests of a content ID body, one after another.
-use Rattle.std.specs.Prelude.{◌≡◌, ℕ, ◌<◌, ◌≤◌, Bool, true, false, not, List, [], ◌∷◌, length, Some, None, Option, nat_lt, slice_index, refl}
-use Rattle.std.proofs.Common.{sym, ap, ◌∙◌}
+use Rattle.std.specs.Prelude.{◌≡◌, ℕ, ◌<◌, ◌≤◌, Bool, true, List, length, Some, None, Option, nat_lt, slice_index}
+use Rattle.std.proofs.Common.{◌∙◌}
 use Rattle.std.proofs.lemmas.Bool.{le-ltb, lt-ltb, not_from_true}
-use Rattle.buffers.specs.Places.{first, part, wrong, or_else}
+use Rattle.buffers.specs.Places.{wrong, or_else}
 use Rattle.buffers.proofs.Steps.{skip, stop, only, passes, fails}
 use Rattle.body.specs.Identifiers.{length_fits}
-use Rattle.body.specs.Reading.{type_of, size_of, has_content, has_channel, channel_at, end_of, until_fault, id_fault, content_fault, channel_fault, content_part_fault, channel_part_fault, content_id_fault}
+use Rattle.body.specs.Reading.{type_of, size_of, channel_at, end_of, until_fault, id_fault, content_fault, content_part_fault, channel_part_fault, content_id_fault}
 
 abbrev pub channel_part : List ℕ → Option ℕ
 channel_part b = channel_part_fault (channel_at b) b

@@ -1,5 +1,7 @@
 // Message bodies: the kinds of message, their formats, and the reading of a body into its message, which borrows the
 // body's bytes. Nothing here knows of blocks, lines or readers, or how a body is written (crate body_writing does).
+#![tactic(auto)]
+
 mod content;
 mod fields;
 mod identifier;

@@ -1,5 +1,5 @@
 -- What writing answers and leaves: by the place of a wrong value, the body, and the output that is lent.
-use Rattle.std.specs.Prelude.{ℕ, cond, List, length, Some, None, Ok, Err, Option, Result, nat_lt}
+use Rattle.std.specs.Prelude.{ℕ, cond, List, length, Some, None, Err, Option, Result, nat_lt}
 use Rattle.buffers.specs.Laid.{laid}
 use Rattle.buffers.specs.Places.{unless}
 use Rattle.refusal.specs.declared.Refusal.{Refusal}

@@ -1,5 +1,5 @@
 -- Values that no body can have, in the words of the rule: each with the place where its field would begin.
-use Rattle.std.specs.Prelude.{◌≡◌, ℕ, ◌+◌, ◌^◌, ◌<◌, ◌≤◌, Bool, true, false, ◌⊎◌, List, length, Some, None, Option, slice_index}
+use Rattle.std.specs.Prelude.{◌≡◌, ℕ, ◌+◌, ◌^◌, ◌<◌, ◌≤◌, Bool, false, ◌⊎◌, length, Some, None, Option, slice_index}
 use Rattle.body.specs.declared.message.Time.{Time}
 use Rattle.body.specs.declared.message.Channel.{Channel}
 use Rattle.body.specs.Identifiers.{length_fits}

@@ -1,15 +1,15 @@
 -- The place that a message is refused at is the smallest of its wrong values.
-use Rattle.std.specs.Prelude.{◌≡◌, ℕ, ◌+◌, ◌^◌, ◌<◌, ◌≤◌, Bool, true, false, cond, not, ◌⊎◌, List, [], ◌∷◌, ◌++◌, length, Some, None, Option, ◌==◌, ◌≢◌, nat_le, nat_lt, slice_index, refl}
-use Rattle.std.proofs.Common.{sym, ap, subst, ◌∙◌, inl, inr, ⊎_elim, arith}
+use Rattle.std.specs.Prelude.{◌≡◌, ℕ, ◌+◌, ◌^◌, ◌<◌, ◌≤◌, Bool, true, false, not, ◌⊎◌, List, ◌++◌, length, Some, None, Option, ◌==◌, ◌≢◌, nat_le, nat_lt, slice_index, refl}
+use Rattle.std.proofs.Common.{sym, subst, inl, inr, ⊎_elim, arith}
 use Rattle.std.proofs.lemmas.List.{length-append}
 use Rattle.std.proofs.lemmas.Bool.{cases_lt, ltb-true, leb-true, eqb-true, lt-ltb, le-leb, eq-eqb, not-true, not_from_false}
-use Rattle.buffers.specs.Places.{wrong, part, or_else, shifted, Smallest, at, nowhere}
+use Rattle.buffers.specs.Places.{or_else, Smallest, at, nowhere}
 use Rattle.buffers.proofs.Firsts.{smallest_wrong, smallest_none, smallest_either, smallest_same, smallest_shifted, smallest_part}
 use Rattle.buffers.proofs.Steps.{cases_option}
 use Rattle.body.specs.declared.message.Time.{Time}
 use Rattle.body.specs.declared.message.Channel.{Channel}
 use Rattle.body.specs.Identifiers.{length_fits, wrong_from, misspelt}
-use Rattle.body.specs.Format.{ones, flag, head_bytes, until_bytes, content_bytes, id_place, time_wrong, until_wrong, content_wrong, channel_wrong, content_id_wrong, presentation_wrong}
+use Rattle.body.specs.Format.{ones, flag, until_bytes, content_bytes, id_place, time_wrong, until_wrong, content_wrong, channel_wrong, content_id_wrong, presentation_wrong}
 use Rattle.body.specs.Messages.{Identified, Said, content_id, presentation, plain}
 use Rattle.body.specs.Spelling.{good_all, bad_first}
 use Rattle.body_writing.specs.Unfit.{TimeUnfit, seconds_large, milliseconds_large, UntilUnfit, ContentUnfit, type_large, length_misfit, until_unfit, character, ChannelUnfit, bsid_large, major_large, minor_large, ContentIdUnfit, PresentationUnfit}

@@ -1,5 +1,7 @@
 // The writing of message bodies: which kinds are written, the bytes of a message, and the one call that writes a message of
 // any such kind and reads it back. Nothing here knows how a body is sent, or allocates.
+#![tactic(auto)]
+
 mod fields;
 mod kinds;
 mod laying;

@@ -1,5 +1,5 @@
 -- The first wrong place of tests in order is the smallest, put together part by part.
-use Rattle.std.proofs.Common.{◌≡◌, ℕ, ◌+◌, ◌≤◌, Bool, true, false, ◌⊎◌, Some, None, Option, sym, refl, ap, subst, inl, inr, arith}
+use Rattle.std.proofs.Common.{◌≡◌, ℕ, ◌+◌, ◌≤◌, Bool, true, false, ◌⊎◌, None, Option, refl, inl, inr, arith}
 use Rattle.buffers.specs.Places.{wrong, part, or_else, shifted, Smallest, at, nowhere}
 
 -- one test, and its one place

@@ -1,6 +1,6 @@
 -- How tests in the order of their places follow one another, and what an answer tells of them.
-use Rattle.std.proofs.Common.{◌≡◌, ℕ, Bool, true, false, ◌⊎◌, List, [], ◌∷◌, Some, None, Ok, Err, Option, Result, sym, refl, ap, ◌∙◌, inl, inr, arith}
-use Rattle.buffers.specs.Places.{wrong, part, or_else, first, shifted, present, unless, told}
+use Rattle.std.proofs.Common.{◌≡◌, ℕ, Bool, true, false, ◌⊎◌, Some, None, Ok, Err, Option, Result, sym, refl, ap, ◌∙◌, inl, inr, arith}
+use Rattle.buffers.specs.Places.{wrong, part, or_else, shifted, present, unless, told}
 
 -- a test that passed
 pub skip : (o q : Option ℕ) → o ≡ None → or_else o q ≡ q

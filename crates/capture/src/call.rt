@@ -26,8 +26,7 @@ fn told(answer: Result<Option<usize>, Refusal>) -> LineReading
 }
 
 // Reads one line by 1X, else 2X, off samples of two bytes each, low byte first.
-#[unsafe(no_mangle)]
-pub extern "C" fn rueladle_read_line(depth: u32, samples: &[u8], payload: &mut [u8]) -> LineReading
+pub fn rueladle_read_line(depth: u32, samples: &[u8], payload: &mut [u8]) -> LineReading
     ensures answer { result ≡ in_numbers (bytes_answer (depth_of depth) samples.now (length payload.old)) }
     ensures payload { payload.new ≡ buffer_after (depth_of depth) samples.now payload.old }
     ensures carried { (p : List ℕ) → Carry depth samples.now p → 60 ≤ length payload.old → (result ≡ in_numbers (Ok (Some (length p)))) × (payload.new ≡ put (Some p) payload.old) }

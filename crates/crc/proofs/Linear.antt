@@ -1,8 +1,7 @@
 -- Eight shifts of a register, split into its top byte and the rest.
-use Rattle.std.proofs.Common.{◌≡◌, ℕ, zero, suc, ◌+◌, ◌-◌, ◌*◌, ◌/◌, ◌%◌, ◌^◌, ◌<◌, ◌≤◌, Bool, true, false, cond, leb, sym, refl, ap, ◌∙◌, subst, ⊎_elim, add-zero, mul_assoc, mul_comm, mul-le-mul_left, pow-suc, arith, pow_pos}
+use Rattle.std.proofs.Common.{◌≡◌, ℕ, zero, suc, ◌+◌, ◌*◌, ◌/◌, ◌%◌, ◌^◌, ◌<◌, ◌≤◌, leb, sym, refl, ap, ◌∙◌, ⊎_elim, add-zero, mul_assoc, mul_comm, mul-le-mul_left, pow-suc, arith, pow_pos}
 use lib.Bits.{bit_xor, xor_comm, xor_assoc, xor_self, xor_zero_l, xor_zero_r, xor_mod, xor_shr, xor_block, xor_lt, xor_shifted}
-use Rattle.std.proofs.lemmas.Bool.Decides.{nat_tests}
-use Rattle.std.proofs.lemmas.Bool.{cond-true, cond-false, cond_both, le-leb, lt-leb, leb-true, leb-false, cases_lt}
+use Rattle.std.proofs.lemmas.Bool.{cond-true, cond-false, cond_both, le-leb, lt-leb, cases_lt}
 use Rattle.crc.specs.Crc.{shifted, times, fed}
 
 abbrev poly : ℕ

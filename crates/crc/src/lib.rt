@@ -1,5 +1,7 @@
 // The CRC that blocks and messages carry, a byte at a time from a table. This crate knows nothing of blocks: it takes bytes
 // and answers 32 bits. specs/Crc.antt defines the CRC bit by bit; the table's rule is proved whole, by one computed test.
+#![tactic(auto)]
+
 ghost use Rattle.std.specs.Prelude.{◌≡◌};
 ghost use Rattle.crc.specs.Crc.{fed, feds, crc};
 

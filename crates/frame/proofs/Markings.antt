@@ -1,14 +1,14 @@
 -- Groups that are put into a frame one after the other, and the frame that comes of them.
-use Rattle.std.proofs.Common.{◌≡◌, ℕ, suc, ◌+◌, ◌-◌, ◌<◌, ◌≤◌, Bool, true, false, cond, ltb, List, [], ◌∷◌, ◌++◌, length, get_or, take, drop, set, replicate, Some, None, Ok, Err, Option, Result, sym, refl, ap, ◌∙◌, subst, append_assoc, append-nil, add-zero, add_assoc, arith}
+use Rattle.std.proofs.Common.{◌≡◌, ℕ, suc, ◌+◌, ◌-◌, ◌<◌, ◌≤◌, Bool, true, false, cond, List, [], ◌∷◌, ◌++◌, length, get_or, take, drop, set, replicate, None, Ok, Err, Option, Result, sym, refl, ap, ◌∙◌, subst, append_assoc, append-nil, add-zero, arith}
 use Rattle.std.specs.Result.{result_err}
-use Rattle.std.proofs.lemmas.List.{take_more, drop_more, take_all, drop_all, length-append, length-take-le, set_at}
+use Rattle.std.proofs.lemmas.List.{take_more, drop_more, take_all, length-append, length-take-le, set_at}
 use Rattle.std.proofs.lemmas.Bool.{lt-ltb, le-ltb}
 use Rattle.refusal.specs.declared.Refusal.{Refusal}
 use Rattle.refusal.specs.declared.Refusal.TheVariants.{OutputLength, Payload}
 use Rattle.sending.specs.Sendings.{Block}
 use Rattle.walk.specs.Laws.{payload_of}
 use Rattle.frame.specs.Frames.{wires, Holds}
-use Rattle.frame.specs.Groups.{Want, blocks, put_answer, put_blocks, unless_refused, before_refusal, Open, Taken, SentBack, After}
+use Rattle.frame.specs.Groups.{Want, blocks, put_answer, put_blocks, unless_refused, Open, After}
 use Rattle.frame.specs.Marking.{frame_length, groups_blocks, groups_refusals, frame_blocks, frame_payload, frame_of, not_refused}
 use Rattle.frame.proofs.Openings.{begun}
 use Rattle.frame.proofs.Puts.{wires_append}

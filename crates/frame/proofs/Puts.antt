@@ -1,17 +1,17 @@
 -- A group that is going into a frame, block by block.
-use Rattle.std.proofs.Common.{◌≡◌, ℕ, ◌+◌, ◌-◌, ◌<◌, ◌≤◌, ◌⊎◌, List, [], ◌∷◌, ◌++◌, map, length, get_or, take, drop, Ok, Err, Result, sym, refl, ap, ◌∙◌, subst, inl, inr, append_assoc, append-nil, arith}
+use Rattle.std.proofs.Common.{◌≡◌, ℕ, ◌+◌, ◌-◌, ◌<◌, ◌≤◌, ◌⊎◌, List, [], ◌∷◌, ◌++◌, length, get_or, take, drop, Ok, Err, sym, refl, ap, ◌∙◌, subst, append_assoc, append-nil, arith}
 use mathlib.Core.Logic.{∥∥₁_map}
-use Rattle.std.specs.List.{flat_map, AllByRecursion}
+use Rattle.std.specs.List.{AllByRecursion}
 use Rattle.std.proofs.ByRecursion.{All-append, All-push}
-use Rattle.std.proofs.lemmas.List.{take_more, drop_more, take_all, drop_all, flat_map_more, length-append, length-take-le, get_or-append_right, get_or-drop, length-map, get_or-map}
+use Rattle.std.proofs.lemmas.List.{take_more, drop_more, take_all, drop_all, flat_map_more, length-append, get_or-drop}
 use Rattle.refusal.specs.declared.Refusal.{Refusal}
 use Rattle.buffers.specs.Laid.{laid}
 use Rattle.buffers.proofs.Lays.{laid_none, laid_more, laid_place, length_laid, take_laid, take_laid_below, drop_laid}
-use Rattle.sending.specs.Sendings.{Sending, Block, IsSending, block}
+use Rattle.sending.specs.Sendings.{Block, IsSending}
 use Rattle.wire.specs.Wire.{block_bytes}
 use Rattle.walk.specs.Laws.{OfASending}
 use Rattle.frame.specs.Frames.{wires, Holds, Filled}
-use Rattle.frame.specs.Groups.{Want, block_of, size_of, blocks, block_answer, then_answer, put_answer, unless_refused, before_refusal, put_blocks, Open, Taken, SentBack, After}
+use Rattle.frame.specs.Groups.{Want, block_of, size_of, blocks, block_answer, then_answer, put_answer, unless_refused, before_refusal, put_blocks, Taken, SentBack}
 use Rattle.frame.proofs.Tries.{size_bytes}
 
 pub wires_append : (xs ys : List Block) → wires (xs ++ ys) ≡ wires xs ++ wires ys

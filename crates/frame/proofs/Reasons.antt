@@ -1,12 +1,12 @@
 -- Why a group is put or refused.
-use Rattle.std.proofs.Common.{◌≡◌, ℕ, suc, ◌+◌, ◌<◌, ◌≤◌, ◌⊎◌, List, [], ◌∷◌, ◌++◌, length, Ok, Err, Result, sym, refl, ap, ◌∙◌, subst, inl, inr, ⊎_elim, arith}
+use Rattle.std.proofs.Common.{◌≡◌, ℕ, suc, ◌+◌, ◌<◌, ◌≤◌, List, [], ◌∷◌, ◌++◌, length, Ok, Err, Result, sym, refl, ap, subst, inl, inr, ⊎_elim, arith}
 use Rattle.std.proofs.lemmas.List.{length-append}
 use Rattle.std.proofs.lemmas.Bool.{cases_lt}
 use Rattle.refusal.specs.declared.Refusal.{Refusal}
 use Rattle.refusal.specs.declared.Refusal.TheVariants.{FrameEnd, NotOfASending}
 use Rattle.wire.specs.Wire.{block_bytes}
 use Rattle.frame.specs.Frames.{wires}
-use Rattle.frame.specs.Groups.{Want, block_of, size_of, blocks, block_answer, then_answer, put_answer, Fits, Reason, FirstRefused, Open, putting, WholeOrNot}
+use Rattle.frame.specs.Groups.{Want, block_of, size_of, blocks, then_answer, put_answer, Fits, Reason, Open, putting, WholeOrNot}
 use Rattle.frame.proofs.Tries.{tried_not, tried_past, tried_fits, size_bytes}
 
 -- the same from the i-th block on

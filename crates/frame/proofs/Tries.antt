@@ -1,10 +1,9 @@
 -- One wanted block tried at a mark: what asking for its length, its room and its writing come to.
 use Rattle.std.proofs.Common.{◌≡◌, ℕ, ◌+◌, ◌<◌, ◌≤◌, Bool, true, false, cond, ltb, List, length, Ok, Err, Result, sym, refl, ap, ◌∙◌, arith}
-use Rattle.std.proofs.lemmas.Bool.{cond-true, cond-false, lt-ltb, le-ltb, ltb-true, ltb-false}
+use Rattle.std.proofs.lemmas.Bool.{lt-ltb, le-ltb, ltb-true}
 use Rattle.refusal.specs.declared.Refusal.{Refusal}
 use Rattle.refusal.specs.declared.Refusal.TheVariants.{FrameEnd, NotOfASending}
 use Rattle.buffers.specs.Laid.{laid}
-use Rattle.sending.specs.Sendings.{block}
 use Rattle.wire.specs.Wire.{block_bytes}
 use Rattle.wire.specs.Writing.{size, wanted_size, writing, written}
 use Rattle.wire.proofs.Writings.{write_fits}

@@ -1,5 +1,7 @@
 // Frames: one line's payload as it is filled with blocks of sendings, sealed, and drawn by a line system.
 // This crate knows nothing of how a line is drawn, nor of how a block's bytes are made. It allocates nothing.
+#![tactic(auto)]
+
 mod frame;
 mod limits;
 mod marking;

@@ -1,9 +1,7 @@
 -- How many parts are held.
-use Rattle.std.proofs.Common.{◌≡◌, ℕ, zero, suc, ◌+◌, Bool, true, false, cond, List, [], get_or, is_some, Some, None, Option, sym, refl, ap, ◌∙◌, add-one, arith}
+use Rattle.std.proofs.Common.{◌≡◌, ℕ, zero, suc, ◌+◌, Bool, true, false, cond, List, [], get_or, is_some, Some, None, Option, sym, refl, ap, ◌∙◌, add-one}
 use Rattle.gather.specs.declared.slot.Part.{Part}
-use Rattle.gather.specs.declared.slot.State.{State}
-use Rattle.gather.specs.declared.slot.State.TheVariants.{Gathering}
-use Rattle.gather.specs.Model.{held_in, slot_in}
+use Rattle.gather.specs.Model.{held_in}
 use Rattle.gather.specs.Arriving as value
 use Rattle.gather.specs.Arriving.{watched}
 use Rattle.gather.specs.Gathering.{Slot}

@@ -1,10 +1,9 @@
 -- How a slot ends a block, by whether all its parts are held.
-use Rattle.std.proofs.Common.{◌≡◌, ℕ, Bool, true, false, cond, ◌||◌, eqb, List, length, Option, sym, refl, ap, ◌∙◌}
+use Rattle.std.proofs.Common.{◌≡◌, ℕ, Bool, true, false, cond, eqb, List, length, Option, sym, ap, ◌∙◌}
 use Rattle.std.proofs.lemmas.Bool.{or_from, or_left, or_right, ne_eqb, eq-eqb}
 use Rattle.crc.specs.Crc.{crc}
 use Rattle.gather.specs.Gathering as value
 use Rattle.gather.specs.Gathering.{full, right, whole, bears, nothing}
-use Rattle.gather.specs.declared.slot.Arrival.{Arrival}
 use Rattle.gather.specs.declared.slot.Arrival.TheVariants.{Message, Faulty, Silent}
 use Rattle.gather.specs.declared.slot.Part.{Part}
 use Rattle.gather.specs.declared.slot.State.{State}

@@ -1,16 +1,16 @@
 -- The steps of the loops over the parts of a slot.
-use Rattle.std.proofs.Common.{◌≡◌, ℕ, zero, suc, ◌+◌, ◌-◌, ◌<◌, ◌≤◌, min, Bool, true, false, cond, ◌&&◌, ◌⊎◌, List, [], ◌∷◌, ◌++◌, length, get_or, take, drop, is_some, Some, None, Option, sym, refl, ap, ◌∙◌, inl, inr, ⊎_elim, append_assoc, add-one, arith, length-append}
+use Rattle.std.proofs.Common.{◌≡◌, ℕ, zero, suc, ◌+◌, ◌-◌, ◌<◌, ◌≤◌, true, false, List, [], ◌∷◌, ◌++◌, length, get_or, take, drop, is_some, Some, None, Option, sym, refl, ap, ◌∙◌, ⊎_elim, append_assoc, add-one, arith}
 use borrow.Rule.Slice.PartMut.{put_mid}
 use Rattle.std.specs.List.{range_with_len, flat_map}
 use Rattle.std.proofs.lemmas.List.{flat_map_more, take_at, drop_at, drop-drop}
 use Rattle.std.proofs.lemmas.Bool.{and_from, and_left, and_right, cases_eq}
 use Rattle.std.proofs.lemmas.Bool.Decides.{nat_tests}
-use Rattle.crc.specs.Crc.{crc, fed, feds}
+use Rattle.crc.specs.Crc.{fed, feds}
 use Rattle.gather.specs.Gathering as value
 use Rattle.gather.specs.Gathering.{body_of, full, whole, bears, agrees}
 use Rattle.gather.specs.declared.slot.Part.{Part}
 use Rattle.gather.specs.Model.{room, part_in, held_in}
-use Rattle.gather.specs.Keeping.{carries, fronted}
+use Rattle.gather.specs.Keeping.{carries}
 
 counting_more : (a n : ℕ) → range_with_len a (suc n) ≡ range_with_len a n ++ (a + n) ∷ []
 counting_more a zero = let e : a + 0 ≡ a = omega arith in ap (λ (m : ℕ). m ∷ []) (sym e)

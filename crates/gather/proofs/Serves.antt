@@ -1,5 +1,5 @@
 -- What a table answers to a block, from what the slot of its number answers.
-use Rattle.std.proofs.Common.{◌≡◌, ℕ, ◌<◌, ◌≤◌, Bool, true, false, cond, ◌&&◌, eqb, List, [], ◌∷◌, ◌++◌, map, length, get_or, take, drop, set, sym, refl, ap, ◌∙◌, subst, arith, length-append}
+use Rattle.std.proofs.Common.{◌≡◌, ℕ, Bool, true, false, cond, ◌&&◌, eqb, List, length, drop, sym, refl, ap, ◌∙◌, subst, arith, length-append}
 use mathlib.Core.Path.{fun_ext}
 use Rattle.std.proofs.lemmas.List.{take_at}
 use Rattle.std.proofs.lemmas.Bool.{eqb-true}
@@ -7,15 +7,11 @@ use Rattle.sending.specs.Sendings.{Block, Message}
 use Rattle.gather.specs.Gathering as value
 use Rattle.gather.specs.Gathering.{nothing, settled, Answer, silent, handed, faulty, answer, full, right, whole, kept}
 use Rattle.gather.specs.Arriving.{Table, watched, arrive, answer_to}
-use Rattle.gather.specs.Tables.{table_of}
 use Rattle.gather.specs.Watching.{fits_slot}
-use Rattle.gather.specs.declared.slot.Slot.{Slot}
 use Rattle.gather.specs.declared.slot.Arrival.{Arrival}
 use Rattle.gather.specs.declared.slot.Arrival.TheVariants.{NotWatched, Unfit, Silent, Faulty}
-use Rattle.gather.specs.Model.{model}
 use Rattle.gather.specs.Keeping.{with_part, ended, ended_out, emptied, fronted}
-use Rattle.gather.specs.Serving.{said, written, meant, Short, reply, arrival, next_table, Absent, FirstAt}
-use Rattle.gather.proofs.Slots.{numbers, length_numbers, watched_not, same_numbers, found_slot, is_watched, changed}
+use Rattle.gather.specs.Serving.{said, written, meant, Short, reply, arrival, next_table}
 
 -- the message of the parts that are kept
 abbrev joined_message : ℕ → Block → value.Slot → Message

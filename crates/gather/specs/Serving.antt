@@ -6,7 +6,7 @@ use Rattle.sending.specs.Sendings.{Block}
 use Rattle.gather.specs.Gathering.{Part, Slot, nothing, Answer, silent, handed, faulty}
 use Rattle.gather.specs.Arriving as value
 use Rattle.gather.specs.Arriving.{watched, arrive, answer_to}
-use Rattle.gather.specs.Watching.{Watchable, watch_fault, fits_slot}
+use Rattle.gather.specs.Watching.{Watchable, fits_slot}
 use Rattle.gather.specs.Model.{watching, gathered}
 use Rattle.gather.specs.Keeping.{fronted}
 use Rattle.gather.specs.declared.slot.Arrival.{Arrival}

@@ -1,5 +1,5 @@
 -- Which lists of numbers can be watched, and which blocks can be gathered.
-use Rattle.std.specs.Prelude.{◌≡◌, ℕ, zero, suc, ◌+◌, ◌<◌, ◌≤◌, Bool, cond, not, ◌&&◌, ◌||◌, List, length, take, Some, None, Option, ◌==◌, ◌≢◌, nat_le, nat_lt, slice_index}
+use Rattle.std.specs.Prelude.{ℕ, zero, suc, ◌+◌, ◌<◌, ◌≤◌, Bool, cond, not, ◌&&◌, ◌||◌, List, length, take, Some, None, Option, ◌==◌, ◌≢◌, nat_le, nat_lt, slice_index}
 use Rattle.std.specs.Option.{option_or}
 use Rattle.sending.specs.Sendings.{Block}
 use Rattle.gather.specs.Arriving.{watched}

@@ -1,5 +1,7 @@
 // Gathering: the slots of the watched numbers, which keep the parts of messages until all are there.
 // This crate knows nothing of lines, payloads, trays or of what the messages say, and allocates nothing.
+#![tactic(auto)]
+
 mod arrive;
 mod find;
 mod held;

@@ -1,7 +1,7 @@
 -- The symbols of a payload, and the payload that symbols write.
-use Rattle.std.proofs.Common.{◌≡◌, ℕ, zero, suc, ◌+◌, ◌-◌, ◌*◌, ◌/◌, ◌%◌, ◌^◌, ◌<◌, ◌≤◌, Bool, true, false, eqb, List, [], ◌∷◌, map, length, get_or, sym, refl, ap, ◌∙◌, subst, mul-zero, div-add-mod', mul-suc, div-one, add-one, arith}
+use Rattle.std.proofs.Common.{◌≡◌, ℕ, zero, suc, ◌+◌, ◌-◌, ◌*◌, ◌/◌, ◌%◌, ◌^◌, ◌<◌, ◌≤◌, true, eqb, List, length, get_or, sym, refl, ap, ◌∙◌, subst, mul-zero, div-add-mod', mul-suc, div-one, add-one, arith}
 use native.Mathlib.Nat.{div-eq_of_lt}
-use Rattle.std.specs.List.{range_with_len, AllByRecursion as All}
+use Rattle.std.specs.List.{AllByRecursion}
 use Rattle.std.proofs.lemmas.Nat.{div-mul-add, mod-mul-add, shr-shr}
 use Rattle.std.proofs.lemmas.List.FromFn.{fill_by_all, length-map-range_with_len, get_or-map-range_with_len}
 use Rattle.std.proofs.ByRecursion.{All-get_or, All-from_get_or}
@@ -51,7 +51,7 @@ symbol_in b p j t h =
     ap (λ k. digit b (get_or p k 0) ((j * (8 / b) + t) % (8 / b))) (div-mul-add j (8 / b) t h) ∙ ap (digit b (get_or p j 0)) (mod-mul-add j (8 / b) t h)
 
 -- the payload is what its symbols write
-pub payload_is : (b : ℕ) → 1 ≤ b → b ≤ 2 → (f : ℕ → ℕ) (p : List ℕ) → length p ≡ 240 / (8 / b) → All (λ x. x < 256) p →
+pub payload_is : (b : ℕ) → 1 ≤ b → b ≤ 2 → (f : ℕ → ℕ) (p : List ℕ) → length p ≡ 240 / (8 / b) → AllByRecursion (λ x. x < 256) p →
     ((k : ℕ) → k < 240 → f k ≡ symbol_of b p k) → payload_of b f ≡ p
 payload_is b low high f p size bytes same =
     sym (fill_by_all (λ j. gathered (2 ^ b) (λ t. f (j * (8 / b) + t)) (8 / b)) p (240 / (8 / b)) 0 size

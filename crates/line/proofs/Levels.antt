@@ -1,5 +1,5 @@
 -- How far the level of a symbol lies from what was drawn, by its weight and a deviation, and what it is read as.
-use Rattle.std.proofs.Common.{◌≡◌, ℕ, zero, suc, ◌+◌, ◌*◌, ◌<◌, ◌≤◌, true, cond, leb, List, [], ◌∷◌, length, get_or, take, drop, None, sum, sym, refl, ap, ◌∙◌, subst, suc-mul, zero-add, zero-mul, arith}
+use Rattle.std.proofs.Common.{◌≡◌, ℕ, zero, suc, ◌+◌, ◌*◌, ◌<◌, ◌≤◌, true, cond, leb, List, [], ◌∷◌, length, get_or, take, drop, None, sum, sym, ap, ◌∙◌, subst, suc-mul, zero-add, zero-mul, arith}
 use Rattle.std.proofs.lemmas.List.Sums.{sum_by-cons}
 use Rattle.std.proofs.lemmas.Bool.{le-leb, lt-leb}
 use Rattle.std.proofs.lemmas.Nat.{div-mul-add}

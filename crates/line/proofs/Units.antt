@@ -1,5 +1,5 @@
 -- The units of the depths.
-use Rattle.std.proofs.Common.{◌≡◌, ℕ, ◌<◌, refl, arith}
+use Rattle.std.proofs.Common.{◌≡◌, ◌<◌, refl, arith}
 use Rattle.line.specs.declared.depth.Depth.{Depth}
 use Rattle.line.specs.declared.depth.Depth.TheVariants.{Eight, Ten, Twelve}
 use Rattle.line.specs.Depths.{unit_of}

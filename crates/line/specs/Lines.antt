@@ -1,6 +1,6 @@
 -- Lines and payloads: which are good, and what drawing and reading answer.
 use Rattle.std.specs.Prelude.{◌≡◌, ℕ, ◌*◌, ◌%◌, ◌<◌, Bool, true, cond, ◌&&◌, ltb, List, ◌++◌, length, drop, Some, None, Ok, Err, Option, Result, ◌==◌, nat_le, nat_lt, slice_index}
-use Rattle.std.specs.List.{prefix_len, AllByRecursion as All}
+use Rattle.std.specs.List.{prefix_len, AllByRecursion}
 use Rattle.refusal.specs.declared.Refusal.{Refusal}
 use Rattle.refusal.specs.declared.Refusal.TheVariants.{SampleCount, SampleSize, OutputLength, Payload}
 use Rattle.line.specs.declared.depth.Depth.{Depth}
@@ -27,7 +27,7 @@ begins p = slice_index p 0 == 235 && slice_index p 1 == 82
 pub record Drawable (draws : ℕ → Bool) (p : List ℕ) : Type 0 where
   pub size : draws (length p) ≡ true
   pub front : begins p ≡ true
-  pub bytes : All (λ b. b < 256) p
+  pub bytes : AllByRecursion (λ b. b < 256) p
 
 -- what drawing answers: the sample count is tested first, then the payload
 abbrev pub draw_answer : (ℕ → Bool) → List ℕ → ℕ → Result Unit Refusal

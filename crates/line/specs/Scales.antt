@@ -1,5 +1,5 @@
 -- Cuts, by which symbols are read, and palettes, by which they are drawn.
-use Rattle.std.specs.Prelude.{ℕ, ◌*◌, Bool, cond, List, [], ◌∷◌, length, Some, None, Option, ◌==◌, nat_lt}
+use Rattle.std.specs.Prelude.{ℕ, ◌*◌, Bool, cond, List, [], ◌∷◌, Some, None, Option, ◌==◌, nat_lt}
 use Rattle.line.specs.declared.reading.Cuts.{Cuts}
 use Rattle.line.specs.declared.reading.Cuts.TheVariants.{One, Three}
 use Rattle.line.specs.declared.drawing.Palette.{Palette}

@@ -1,3 +1,5 @@
+#![tactic(auto)]
+
 // Tests of lines and line systems on worked values, apart from the crates that they test, so that those are proved once.
 #[cfg(test)]
 mod edges;

@@ -1,15 +1,13 @@
 -- Levels 4 and 20 bear 3 and not 4: with zeros drawn 4 too high and ones 4 too low the run-in is lost.
-use Rattle.std.proofs.Common.{◌≡◌, ℕ, zero, suc, ◌+◌, ◌-◌, ◌*◌, ◌<◌, ◌≤◌, true, false, eqb, List, [], ◌∷◌, length, get_or, replicate, Some, None, sym, refl, ap, ◌∙◌, subst, arith}
-use Rattle.std.specs.List.{AllByRecursion as All}
+use Rattle.std.proofs.Common.{◌≡◌, ℕ, zero, suc, ◌-◌, ◌*◌, ◌<◌, eqb, List, [], ◌∷◌, length, get_or, replicate, Some, None, sym, refl, ap, ◌∙◌, arith}
+use Rattle.std.specs.List.{AllByRecursion}
 use Rattle.std.proofs.lemmas.Bool.{cond-false, le-ltb}
 use Rattle.std.proofs.lemmas.List.FromFn.{get_or-map-range_with_len, length-map-range_with_len}
-use Rattle.std.proofs.ByRecursion.{All-from_get_or}
 use Rattle.line.specs.declared.depth.Depth.TheVariants.{Eight}
 use Rattle.line.specs.Lines.{line_fault, Drawable}
 use Rattle.line.specs.Symbols.{Near, Within, weight, level_at, symbol_of, symbol_at, drawn_by}
 use Rattle.line.specs.Scales.{found_by}
-use Rattle.line.proofs.Legal.{legal_count}
-use Rattle.line.proofs.Levels.{Close, Follows, line_follows, drawn_legal, drawn_near}
+use Rattle.line.proofs.Levels.{line_follows, drawn_legal, drawn_near}
 use Rattle.line.proofs.Sizes.{weight_good, good_240}
 use Rattle.onex.specs.OneX.{zero_places, one_places, measured, one_run, one_found}
 use Rattle.onex.specs.Tolerance.{Bears}
@@ -23,7 +21,7 @@ bears_three line p near = one_reading Eight line p (4, 20, 3, refl, omega arith,
 abbrev empty : List ℕ
 empty = 235 ∷ 82 ∷ replicate 28 0
 
-zero_bytes : (n : ℕ) → All (λ b. b < 256) (replicate n 0)
+zero_bytes : (n : ℕ) → AllByRecursion (λ b. b < 256) (replicate n 0)
 zero_bytes zero = tt
 zero_bytes (suc n) = (omega arith, zero_bytes n)
 

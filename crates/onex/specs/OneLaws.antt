@@ -1,14 +1,13 @@
 -- The laws of 1X, over the level S of each symbol, the weight w, and how far the levels may deviate.
-use Rattle.std.specs.Prelude.{◌≡◌, ℕ, zero, suc, ◌+◌, ◌-◌, ◌*◌, ◌/◌, ◌%◌, ◌^◌, ◌<◌, ◌≤◌, Bool, true, false, cond, ◌&&◌, leb, List, [], ◌∷◌, length, Some, None, Option, ◌==◌, nat_eq, nat_le, nat_lt, slice_index, slice_index_or, refl}
+use Rattle.std.specs.Prelude.{◌≡◌, ℕ, zero, suc, ◌+◌, ◌-◌, ◌*◌, ◌<◌, ◌≤◌, Bool, true, ◌&&◌, leb, List, [], ◌∷◌, length, Some, None, ◌==◌, nat_eq, nat_le, nat_lt, slice_index, slice_index_or, refl}
 use Rattle.std.proofs.Common.{sym, subst, ap, ◌∙◌, inl, inr, mod-lt, mul-add, mul-le-mul_left, mul_left_comm, arith}
 use Rattle.std.proofs.Math.Nat.{mul-lt-mul_of_pos_left}
 use Rattle.std.proofs.lemmas.Bool.{and_parts, and_from, eqb-true, eq-eqb, cond-true, cases_Bool, cond-false, leb-true, ltb-true, lt-ltb}
 use Rattle.std.proofs.lemmas.List.Sums.{count_by-le-length}
 use Rattle.line.specs.declared.depth.Depth.{Depth}
-use Rattle.line.specs.declared.reading.Cuts.TheVariants.{One}
 use Rattle.line.specs.Depths.{unit_of}
-use Rattle.line.specs.Lines.{good_count, line_fault, begins, Drawable}
-use Rattle.line.specs.Symbols.{Near, weight, level_at, symbol_of, value_of, payload_of, drawn_by}
+use Rattle.line.specs.Lines.{good_count, begins, Drawable}
+use Rattle.line.specs.Symbols.{weight, level_at, symbol_of, value_of, payload_of, drawn_by}
 use Rattle.line.specs.Scales.{found_by}
 use Rattle.line.proofs.Digits.{payload_is, payload_drawable}
 use Rattle.line.proofs.Legal.{legal_count}

@@ -1,5 +1,5 @@
 -- 1X, over the level S of each symbol and the weight w of a symbol.
-use Rattle.std.specs.Prelude.{◌≡◌, ℕ, ◌+◌, ◌-◌, ◌*◌, ◌<◌, min, max, Bool, true, cond, List, [], ◌∷◌, length, Some, None, Ok, Err, fold, Option, Result, nat_lt}
+use Rattle.std.specs.Prelude.{◌≡◌, ℕ, ◌+◌, ◌-◌, ◌*◌, ◌<◌, min, max, Bool, true, cond, List, [], ◌∷◌, length, Some, None, fold, Option, nat_lt}
 use Rattle.line.specs.declared.depth.Depth.{Depth}
 use Rattle.line.specs.declared.reading.Cuts.{Cuts}
 use Rattle.line.specs.declared.reading.Cuts.TheVariants.{One}

@@ -4,7 +4,7 @@ ghost use Rattle.refusal.specs.declared.Refusal.TheVariants.{Levels as NotAllowe
 ghost use Rattle.line.specs.Depths.{unit_of};
 ghost use Rattle.onex.specs.Pairs.{allowed};
 ghost use Rattle.onex.specs.OneX.{OneCarries};
-ghost use Rattle.onex.specs.contracts.one_x.OneXLineSystem.TheImpl.{ghosts as one-system};
+ghost use Rattle.onex.specs.contracts.one_x.OneXLineSystem.TheImpl.{ghosts as one_system};
 
 use crate::levels::Levels;
 use crate::one_x::OneX;
@@ -43,7 +43,7 @@ impl OneX {
     // 1X that draws with these levels, and tolerates at their depth what 1X tolerates with any.
     pub fn new(levels: Levels) -> OneX
         ensures answer { result.levels ≡ levels }
-        ensures tolerance { (line p : List ℕ) → (one-system.tolerates result line p → OneCarries levels.depth line p) × (OneCarries levels.depth line p → one-system.tolerates result line p) }
+        ensures tolerance { (line p : List ℕ) → (one_system.tolerates result line p → OneCarries levels.depth line p) × (OneCarries levels.depth line p → one_system.tolerates result line p) }
     {
         OneX { levels }
     }

@@ -1,9 +1,9 @@
 -- What the answer of the table tells, where the block can be gathered.
-use Rattle.std.proofs.Common.{◌≡◌, ℕ, ◌≤◌, Bool, true, false, cond, not, ◌&&◌, eqb, leb, length, sym, refl, ap, ◌∙◌, arith}
+use Rattle.std.proofs.Common.{◌≡◌, ℕ, Bool, true, false, cond, refl, arith}
 use Rattle.std.proofs.lemmas.Bool.{le-leb, and_from}
-use Rattle.sending.specs.Sendings.{Block, Message}
+use Rattle.sending.specs.Sendings.{Block}
 use Rattle.gather.specs.Gathering.{Answer, silent, handed, faulty}
-use Rattle.gather.specs.Watching.{fits_slot, most_bytes}
+use Rattle.gather.specs.Watching.{fits_slot}
 use Rattle.gather.specs.Serving.{said}
 use Rattle.gather.specs.declared.slot.Arrival.{Arrival}
 use Rattle.gather.specs.declared.slot.Arrival.TheVariants.{NotWatched, Unfit, Silent, Message as Handed, Faulty}

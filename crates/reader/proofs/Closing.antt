@@ -1,7 +1,7 @@
 -- A line that was followed: its tray is finished, and what is answered for it.
-use Rattle.std.proofs.Common.{◌≡◌, ℕ, ◌+◌, ◌≤◌, List, length, Some, None, Option, sym, refl, ap, ◌∙◌, subst, arith}
+use Rattle.std.proofs.Common.{◌≡◌, ℕ, ◌≤◌, List, length, Some, None, Option, ◌∙◌, subst, arith}
 use Rattle.gather.specs.Arriving.{Table}
-use Rattle.tray.specs.Trays.{Fault, IsTray, tray_bytes}
+use Rattle.tray.specs.Trays.{Fault, IsTray}
 use Rattle.tray.specs.Writing.{Finishes, Whole}
 use Rattle.tray.specs.Model.{fault_list}
 use Rattle.tray.proofs.Backs.{short}

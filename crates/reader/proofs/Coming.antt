@@ -1,5 +1,5 @@
 -- An offer that is answered and fills its tray as the definitions say keeps to the rules of a run.
-use Rattle.std.proofs.Common.{◌≡◌, ℕ, ◌+◌, ◌<◌, ◌≤◌, true, false, cond, ltb, List, [], ◌∷◌, ◌++◌, length, take, drop, Some, None, Option, sym, refl, ap, ◌∙◌, inl, inr, zero-add, arith}
+use Rattle.std.proofs.Common.{◌≡◌, ℕ, ◌≤◌, cond, ltb, List, length, take, drop, Some, None, Option, sym, refl, ap, ◌∙◌, inl, inr, zero-add, arith}
 use Rattle.std.proofs.lemmas.List.{take_at}
 use Rattle.std.proofs.lemmas.Bool.{cases_lt, lt-ltb, le-ltb, cond-true, cond-false}
 use Rattle.refusal.specs.declared.Refusal.{Refusal}
@@ -8,12 +8,12 @@ use Rattle.line.specs.declared.depth.Depth.{Depth}
 use Rattle.line.specs.Lines.{line_fault}
 use Rattle.sending.specs.Sendings.{Message}
 use Rattle.walk.specs.Entries.{blocks_read}
-use Rattle.gather.specs.Arriving.{Table, after_line, line_answers, messages_of, faults_of, skipped_of}
+use Rattle.gather.specs.Arriving.{after_line, line_answers, messages_of, faults_of, skipped_of}
 use Rattle.tray.specs.Trays.{Fault, IsTray, tray_bytes}
 use Rattle.tray.specs.Reading.{messages_in, faults_in}
-use Rattle.runs.specs.Pasts.{Setting, blocks_in, spoilt_in, length_in}
-use Rattle.runs.specs.Reaching.{State, line_of, told, Takes}
-use Rattle.reader.specs.Following.{Progress, items_in, at_start, followed, spoilt_of}
+use Rattle.runs.specs.Pasts.{blocks_in, spoilt_in, length_in}
+use Rattle.runs.specs.Reaching.{State, Takes}
+use Rattle.reader.specs.Following.{items_in, at_start, spoilt_of}
 use Rattle.reader.specs.Settings.{or_due, offer_due, in_layer, setting_of}
 use Rattle.reader.specs.Offers.{used_part, figures, tray_after, found_length, line_progress, state_after}
 use Rattle.reader.proofs.Following.{table_is, messages_are, skipped_are, block_faults_are, message_faults_are}

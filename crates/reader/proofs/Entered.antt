@@ -1,14 +1,12 @@
 -- What holds of the entries of a payload of at most 60 bytes: places, numbers and causes are in range, and every block read is small.
-use Rattle.std.proofs.Common.{◌≡◌, ℕ, zero, suc, ◌+◌, ◌-◌, ◌*◌, ◌/◌, ◌%◌, ◌<◌, ◌≤◌, Bool, true, false, cond, not, ◌&&◌, eqb, ltb, List, [], ◌∷◌, length, get_or, take, drop, Some, None, Option, sym, refl, ap, ◌∙◌, subst, inl, inr, mod-lt, arith, length-drop}
+use Rattle.std.proofs.Common.{◌≡◌, ℕ, zero, suc, ◌+◌, ◌-◌, ◌/◌, ◌<◌, ◌≤◌, Bool, true, false, cond, not, ◌&&◌, eqb, ltb, List, [], ◌∷◌, length, get_or, drop, Some, None, sym, refl, ap, ◌∙◌, subst, inl, inr, mod-lt, arith, length-drop}
 use Rattle.std.specs.List.{AllByRecursion}
-use Rattle.std.proofs.lemmas.Bool.{cond_both, cond-true, cond-false, cases_Bool, cases_eq, eqb-true, ne_eqb}
+use Rattle.std.proofs.lemmas.Bool.{cond_both, cond-true, cond-false, cases_eq, ne_eqb}
 use Rattle.std.proofs.lemmas.List.{drop-drop, get_or-drop}
-use Rattle.sending.specs.Sendings.{Block}
-use Rattle.wire.specs.Wire.{check_bytes, block_bytes}
+use Rattle.wire.specs.Wire.{check_bytes}
 use Rattle.wire.proofs.Wires.{length_block}
 use Rattle.walk.specs.Fields.{word, count_of, has_check, crc_right, is_torn, part_of, last_of, cause_at, block_at}
-use Rattle.walk.specs.Entries.{Item, read, fault, item_at, finishes, scan, entries}
-use Rattle.gather.specs.Watching.{most_bytes}
+use Rattle.walk.specs.Entries.{read, fault, item_at, finishes, scan, entries}
 use Rattle.reader.specs.Entered.{Small, Good}
 use Rattle.walk.proofs.Scans.{fits, in_order}
 use Rattle.walk.proofs.Spans.{block_size}

@@ -1,13 +1,12 @@
 -- What following the entries of a line comes to, by what the blocks among them are answered.
-use Rattle.std.proofs.Common.{◌≡◌, ℕ, zero, suc, ◌+◌, Bool, true, false, cond, eqb, List, [], ◌∷◌, ◌++◌, count_by, sym, refl, ap, ◌∙◌, append_assoc, append-nil, arith}
-use Rattle.std.proofs.lemmas.List.Sums.{sum_by-cons, sum_by-append}
-use Rattle.sending.specs.Sendings.{Message, Block}
+use Rattle.std.proofs.Common.{◌≡◌, ℕ, suc, ◌+◌, Bool, true, false, cond, eqb, List, [], ◌∷◌, ◌++◌, sym, refl, ap, ◌∙◌, append_assoc, append-nil, arith}
+use Rattle.std.proofs.lemmas.List.Sums.{sum_by-append}
 use Rattle.walk.specs.Entries.{Item, read, fault, blocks_read}
 use Rattle.gather.specs.Gathering.{Answer, silent, handed, faulty}
-use Rattle.gather.specs.Arriving.{Table, watched, arrive, answer_to, after_line, line_answers, messages_of, faults_of, skipped_of}
+use Rattle.gather.specs.Arriving.{watched, arrive, answer_to, after_line, line_answers, messages_of, faults_of, skipped_of}
 use Rattle.tray.specs.Trays.{Fault}
 use Rattle.reader.specs.Settings.{in_layer}
-use Rattle.reader.specs.Following.{Progress, message_in, block_fault, message_fault, fault_in, follow, follow_all, at_start, spoilt_of}
+use Rattle.reader.specs.Following.{Progress, message_in, block_fault, fault_in, follow, follow_all, spoilt_of}
 
 module _ (watch : List ℕ) (t : ℕ) where
   -- the table is that after the line's blocks

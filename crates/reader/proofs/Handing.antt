@@ -1,12 +1,12 @@
 -- A message handed over stands behind those before it.
-use Rattle.std.proofs.Common.{◌≡◌, ℕ, ◌+◌, ◌*◌, ◌<◌, ◌≤◌, min, Bool, true, false, cond, ◌||◌, ltb, List, [], ◌∷◌, ◌++◌, length, Some, None, Option, sym, refl, ap, ◌∙◌, subst, arith}
+use Rattle.std.proofs.Common.{◌≡◌, ℕ, ◌+◌, ◌*◌, ◌≤◌, ◌||◌, List, [], ◌∷◌, ◌++◌, length, Some, None, ap, arith}
 use Rattle.std.specs.List.{flat_map, AllByRecursion}
-use Rattle.std.proofs.lemmas.List.{flat_map_more, length-append, length_push}
+use Rattle.std.proofs.lemmas.List.{flat_map_more, length-append}
 use Rattle.std.proofs.lemmas.Bool.{cond-false, le-ltb}
 use Rattle.buffers.proofs.Lays.{length_laid}
 use Rattle.sending.specs.Sendings.{Message}
 use Rattle.tray.specs.Trays.{message_bytes, IsMessage}
-use Rattle.tray.specs.Writing.{message_unfit, message_end, holding, behind, Adds}
+use Rattle.tray.specs.Writing.{message_unfit, message_end, holding, behind}
 
 -- the place behind one message more
 pub behind_more : (ms : List Message) (m : Message) → behind (ms ++ m ∷ []) ≡ behind ms + length (message_bytes m)

@@ -1,16 +1,13 @@
 -- A call that keeps to the rules keeps the whole promise.
-use Rattle.std.proofs.Common.{◌≡◌, ℕ, zero, suc, ◌+◌, ◌*◌, ◌<◌, ◌≤◌, Bool, true, List, [], ◌∷◌, ◌++◌, map, length, get_or, Some, None, Option, sym, refl, ap, ◌∙◌, arith}
+use Rattle.std.proofs.Common.{◌≡◌, ℕ, zero, suc, ◌+◌, Bool, List, [], ◌∷◌, ◌++◌, map, length, Some, Option, refl, ap, ◌∙◌, arith}
 use Rattle.std.specs.List.{slice_get}
 use Rattle.line.specs.declared.depth.Depth.{Depth}
-use Rattle.line.specs.Lines.{good_count, Drawable}
 use Rattle.sending.specs.Sendings.{Block}
 use Rattle.wire.specs.Wire.{block_bytes}
-use Rattle.walk.specs.Entries.{entries, blocks_read}
 use Rattle.walk.specs.Laws.{placed_from}
 use Rattle.walk.proofs.Backs.{reads_sent_blocks}
-use Rattle.frame.specs.Frames.{Sealed}
-use Rattle.runs.specs.Sightings.{Event, taken}
-use Rattle.runs.specs.Pasts.{Call, Outcome, Entry, Past, Setting, blocks_in, spoilt_in, length_in, event_of, events}
+use Rattle.runs.specs.Sightings.{taken}
+use Rattle.runs.specs.Pasts.{Call, Outcome, Entry, Past, blocks_in, spoilt_in, length_in, event_of}
 use Rattle.runs.specs.Reaching.{State, Comes, Reached}
 use Rattle.runs.specs.Promises.{EachTakenLineIsReadAsFound}
 use Rattle.runs.proofs.Pasts.{promised, calls_prolong}

@@ -1,6 +1,5 @@
 -- One entry after the other: what is counted, and what room is left.
-use Rattle.std.proofs.Common.{◌≡◌, ℕ, ◌+◌, ◌<◌, ◌≤◌, Bool, true, false, cond, List, [], ◌∷◌, ◌++◌, length, sym, refl, ap, ◌∙◌, subst, arith}
-use Rattle.std.specs.List.{AllByRecursion}
+use Rattle.std.proofs.Common.{◌≡◌, ℕ, ◌+◌, ◌<◌, ◌≤◌, Bool, true, false, cond, List, [], ◌∷◌, length, sym, refl, subst, arith}
 use Rattle.std.proofs.lemmas.List.{length-append}
 use Rattle.buffers.proofs.Lays.{laid_none}
 use Rattle.walk.specs.Entries.{Item, read, fault, blocks_read}
@@ -9,7 +8,6 @@ use Rattle.gather.specs.Arriving.{Table, watched, answer_to}
 use Rattle.tray.specs.Model.{fault_list}
 use Rattle.reader.specs.Following as value
 use Rattle.reader.specs.Following.{message_in, fault_in, block_fault, follow, follow_all, at_start}
-use Rattle.reader.specs.Entered.{Good}
 use Rattle.reader.specs.Stands.{Stands, Room, LineStands}
 use Rattle.reader.specs.declared.progress.Progress.{Progress}
 

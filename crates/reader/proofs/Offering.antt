@@ -1,18 +1,18 @@
 -- What an offer comes to, by the refusal that is due or the line that is taken.
-use Rattle.std.proofs.Common.{◌≡◌, ℕ, ◌≤◌, Bool, true, false, cond, ltb, List, ◌++◌, length, take, drop, IfSome, Some, None, Ok, Err, Option, Result, sym, refl, ap, ◌∙◌, subst, arith}
+use Rattle.std.proofs.Common.{◌≡◌, ℕ, ◌≤◌, Bool, List, length, take, drop, IfSome, Some, None, Ok, Err, Option, Result, sym, refl, ap, ◌∙◌, subst, arith}
 use Rattle.std.proofs.lemmas.List.{take_at}
 use Rattle.refusal.specs.declared.Refusal.{Refusal}
 use Rattle.refusal.specs.declared.Refusal.TheVariants.{Tray}
 use Rattle.line.specs.declared.depth.Depth.{Depth}
-use Rattle.line.specs.Lines.{line_fault, size_of, read_answer, put}
+use Rattle.line.specs.Lines.{size_of, read_answer, put}
 use Rattle.buffers.specs.Places.{unless}
 use Rattle.tray.specs.Reading.{tray_fault}
-use Rattle.tray.proofs.Backs.{back, reads_back as reads-back-as}
-use Rattle.runs.specs.Pasts.{Setting, Call, offer, Outcome, answers, Figures}
+use Rattle.tray.proofs.Backs.{back, reads_back as reads_back_as}
+use Rattle.runs.specs.Pasts.{offer, Outcome, answers, Figures}
 use Rattle.runs.specs.Reaching.{State}
-use Rattle.reader.specs.Settings.{or_due, offer_due, setting_of}
+use Rattle.reader.specs.Settings.{offer_due, setting_of}
 use Rattle.reader.specs.Offers.{used_part, figures, tray_after, offer_answer, offer_tray, offer_state, line_progress, state_after}
-use Rattle.reader.specs.Answers.{call_due, due_told, figures_of, told, outcome_of, seen, Taken}
+use Rattle.reader.specs.Answers.{due_told, figures_of, told, outcome_of, seen, Taken}
 use Rattle.reader.specs.Calls.{offered_line, offered_answer, offered_tray, offered_state, WritesTray}
 use Rattle.reader.specs.Marks.{Carrying, EachDrawnOrToleratedLineCarriesItsFrame, Keeps}
 use Rattle.reader.specs.declared.reader.Answer.{Answer}
@@ -91,7 +91,7 @@ module _ (d : Depth) (found : List ℕ → Option (List ℕ)) (watch : List ℕ)
       record {
         answer = ap Ok taken.answer ∙ sym (ap (λ (o : Option Refusal). offer_answer o (figures (found line) p)) due);
         tray_is = taken.tray_is ∙ sym (ap (λ (o : Option Refusal). offer_tray o (tray_after p old) old) due);
-        writes = record { holds = taken.is_tray; read_back = reads-back-as (take a.used tray) (unless Tray (tray_fault (take a.used tray)) (take a.used tray)) refl p.messages p.faults taken.is_tray used_is };
+        writes = record { holds = taken.is_tray; read_back = reads_back_as (take a.used tray) (unless Tray (tray_fault (take a.used tray)) (take a.used tray)) refl p.messages p.faults taken.is_tray used_is };
         next = after ∙ sym (ap (λ (o : Option Refusal). offer_state o (state_after watch t (found line) before) before) due);
         keeps_it = subst (λ (z : State). Keeps s draws drawn tolerates carries before (offer t line old) (answers (figures_of a) tray) z) (sym after) at_outcome;
       }

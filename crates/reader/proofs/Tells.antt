@@ -1,10 +1,9 @@
 -- What stands in memory once a block has been followed, by what it was answered.
-use Rattle.std.proofs.Common.{◌≡◌, ℕ, ◌+◌, ◌*◌, ◌<◌, ◌≤◌, min, Bool, true, false, cond, ltb, List, [], ◌∷◌, ◌++◌, length, take, sym, refl, ap, ◌∙◌, subst, inl, inr, append-nil, arith}
+use Rattle.std.proofs.Common.{◌≡◌, ℕ, ◌+◌, ◌<◌, ◌≤◌, true, cond, ltb, List, [], ◌∷◌, ◌++◌, length, sym, refl, ap, ◌∙◌, subst, inl, inr, append-nil, arith}
 use Rattle.std.specs.List.{AllByRecursion}
-use Rattle.std.proofs.lemmas.List.{length_push}
 use Rattle.std.proofs.lemmas.Bool.{cond-true, lt-ltb}
 use Rattle.sending.specs.Sendings.{Block, Message}
-use Rattle.walk.specs.Entries.{Item, read, fault}
+use Rattle.walk.specs.Entries.{read, fault}
 use Rattle.gather.specs.Gathering.{Answer, silent, handed, faulty}
 use Rattle.gather.specs.Arriving.{Table, watched, arrive, answer_to}
 use Rattle.gather.specs.Watching.{fits_slot}
@@ -14,7 +13,7 @@ use Rattle.tray.specs.Writing.{holding, behind, fault_more}
 use Rattle.tray.specs.Model.{fault_list}
 use Rattle.reader.specs.Following as value
 use Rattle.reader.specs.Following.{message_in, block_fault, message_fault, fault_in, follow}
-use Rattle.reader.specs.Entered.{Small, Good}
+use Rattle.reader.specs.Entered.{Good}
 use Rattle.reader.specs.Stands.{Stands, Room, HandsOver}
 use Rattle.reader.specs.declared.progress.Progress.{Progress}
 use Rattle.reader.proofs.Handing.{behind_more, behind_most, every_more}

@@ -1,5 +1,5 @@
 -- What the calls on a reader come to, for a reader in a state.
-use Rattle.std.specs.Prelude.{◌≡◌, ℕ, List, take, Some, None, Ok, Err, Option, Result}
+use Rattle.std.specs.Prelude.{ℕ, List, take, Some, None, Ok, Err, Option, Result}
 use Rattle.refusal.specs.declared.Refusal.{Refusal}
 use Rattle.refusal.specs.declared.Refusal.TheVariants.{WatchList, Tray}
 use Rattle.buffers.specs.Places.{unless}

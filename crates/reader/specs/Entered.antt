@@ -1,5 +1,5 @@
 -- Entries that a payload of at most 60 bytes can have: places, numbers and causes in range, and blocks that a slot can take.
-use Rattle.std.specs.Prelude.{ℕ, ◌≤◌, length}
+use Rattle.std.specs.Prelude.{◌≤◌, length}
 use Rattle.sending.specs.Sendings.{Block}
 use Rattle.walk.specs.Entries.{Item, read, fault}
 use Rattle.gather.specs.Watching.{most_bytes}

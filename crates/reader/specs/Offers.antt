@@ -1,5 +1,5 @@
 -- What an offer comes to: its answer, its tray and the state of the reader.
-use Rattle.std.specs.Prelude.{ℕ, List, [], ◌++◌, length, drop, Some, None, Ok, Err, Option, Result}
+use Rattle.std.specs.Prelude.{ℕ, List, ◌++◌, length, drop, Some, None, Ok, Err, Option, Result}
 use Rattle.refusal.specs.declared.Refusal.{Refusal}
 use Rattle.tray.specs.Trays.{tray_bytes}
 use Rattle.runs.specs.Pasts.{Figures}

@@ -1,5 +1,7 @@
 // What is sent back where a call can't do what it is asked. Each refusal has a number, which never changes, and a place.
 // This crate knows nothing of lines, blocks or bodies; docs/REFUSALS.md says when each refusal is answered.
+#![tactic(auto)]
+
 ghost use Rattle.std.specs.Prelude.{◌≡◌};
 ghost use Rattle.refusal.specs.Refusals.{refusal_number, refusal_place};
 

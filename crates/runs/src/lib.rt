@@ -1,5 +1,7 @@
 // The promise over whole runs: what is handed over, and what is never kept back, stated of one number's history and of every
 // list of calls made on a reader. There is no code here but the functions whose contracts are the theorems.
+#![tactic(auto)]
+
 ghost use Rattle.runs.specs.Promises.{OneNumberStands, EachCallProlongsThePast};
 ghost use Rattle.runs.specs.Witness.{SomeRunMeetsThePremise};
 

@@ -1,5 +1,5 @@
 -- What a sending in memory keeps: its rule, its count, its parts and its message.
-use Rattle.std.proofs.Common.{◌≡◌, ℕ, ◌+◌, ◌-◌, ◌<◌, ◌≤◌, List, [], ◌∷◌, length, get_or, take, drop, sym, refl, ap, ◌∙◌, subst, arith}
+use Rattle.std.proofs.Common.{◌≡◌, ℕ, ◌-◌, ◌<◌, ◌≤◌, [], ◌∷◌, length, get_or, take, drop, sym, arith}
 use Rattle.sending.specs.Sendings as value
 use Rattle.sending.specs.Model.{sent}
 use Rattle.sending.specs.declared.sending.Sending.{Sending}

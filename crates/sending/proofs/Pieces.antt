@@ -1,12 +1,12 @@
 -- The pieces of a message that is cut: how many, how long, and that they join to it.
-use Rattle.std.proofs.Common.{◌≡◌, ℕ, zero, suc, ◌+◌, ◌-◌, ◌*◌, ◌<◌, ◌≤◌, min, false, cond, ltb, leb, ◌⊎◌, List, [], ◌∷◌, ◌++◌, length, get_or, take, drop, None, Ok, Err, sym, refl, ap, ◌∙◌, subst, inl, inr, ⊎_elim, append-nil, suc-mul, zero-mul, arith}
+use Rattle.std.proofs.Common.{◌≡◌, ℕ, zero, suc, ◌+◌, ◌-◌, ◌*◌, ◌<◌, ◌≤◌, min, false, cond, ltb, leb, ◌⊎◌, List, [], ◌++◌, length, get_or, take, drop, None, Ok, Err, sym, refl, ap, ◌∙◌, subst, inl, inr, ⊎_elim, append-nil, suc-mul, zero-mul, arith}
 use Rattle.refusal.specs.declared.Refusal.TheVariants.{TooLong, NotOfASending}
 use Rattle.std.proofs.lemmas.List.{length-take, length-drop, take_all, drop_all, take-append-drop}
-use Rattle.std.proofs.lemmas.Bool.{cond-true, cond-false, cond_both, le-leb, lt-leb, lt-ltb, le-ltb, ltb-false, cases_lt}
+use Rattle.std.proofs.lemmas.Bool.{cond-true, cond-false, le-leb, lt-leb, lt-ltb, le-ltb, cases_lt}
 use Rattle.std.proofs.lemmas.Bool.Decides.{nat_tests}
 use Rattle.sending.specs.Storage.{joint}
 use Rattle.sending.specs.Given.{part_limit, first_long, unsuited}
-use Rattle.sending.specs.Cuts.{capacity, part_count, pieces, cut_parts, cutting, Smallest, IsCut, CutRight}
+use Rattle.sending.specs.Cuts.{capacity, part_count, pieces, cut_parts, cutting, Smallest, IsCut}
 use Rattle.sending.proofs.Givens.{none_long, limit_least, limit_inner, suited}
 
 -- ---- the first bytes, as many as there are

@@ -1,5 +1,5 @@
 -- How a sending lies in memory: its message in one piece, and where in it each part ends.
-use Rattle.std.specs.Prelude.{ℕ, ◌+◌, ◌-◌, ◌<◌, List, [], ◌∷◌, length, take, slice_index, slice_index_or, slice_range}
+use Rattle.std.specs.Prelude.{ℕ, ◌+◌, ◌<◌, List, [], ◌∷◌, length, take, slice_index, slice_index_or, slice_range}
 use Rattle.std.specs.List.{flat_map}
 use Rattle.sending.specs.Sendings.{Sending}
 

@@ -1,5 +1,7 @@
 // Sendings: a message in one to four parts, made by cutting a message or from given parts, and the blocks of it as values.
 // This crate knows nothing of how a block is written or read, or of payloads, and allocates nothing.
+#![tactic(auto)]
+
 mod block;
 mod blocks;
 mod cut;

@@ -1,7 +1,6 @@
 -- Going from entry to entry.
-use Rattle.std.proofs.Common.{◌≡◌, ℕ, zero, suc, ◌+◌, ◌-◌, ◌<◌, ◌≤◌, false, List, [], ◌∷◌, ◌++◌, length, get_or, take, drop, is_some, None, sym, refl, ap, ◌∙◌, arith, length-drop}
+use Rattle.std.proofs.Common.{◌≡◌, ℕ, zero, suc, ◌+◌, ◌-◌, ◌<◌, ◌≤◌, false, List, [], ◌∷◌, ◌++◌, length, get_or, take, drop, is_some, None, sym, ap, ◌∙◌, arith, length-drop}
 use Rattle.std.proofs.lemmas.List.{drop-drop, get_or-drop, length-take-le}
-use Rattle.buffers.specs.Places.{shifted}
 use Rattle.buffers.proofs.Steps.{both_none, shifted_none}
 use Rattle.tray.specs.Trays.{message_bytes}
 use Rattle.tray.specs.Reading.{Item, message, fault, message_size, message_fault, message_of, message_there, messages_fault, messages_of, message_items, fault_fault, fault_of, faults_fault, faults_of, fault_items}

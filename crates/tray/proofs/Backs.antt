@@ -1,8 +1,8 @@
 -- What is written as a tray is read back, and an accepted tray is what was written.
-use Rattle.std.proofs.Common.{◌≡◌, ℕ, zero, suc, ◌+◌, ◌-◌, ◌*◌, ◌<◌, ◌≤◌, cond, ◌||◌, eqb, ltb, ◌⊎◌, List, [], ◌∷◌, ◌++◌, length, get_or, take, drop, Some, None, Ok, Err, Option, Result, sym, refl, ap, ◌∙◌, subst, inl, inr, ⊎_elim, append_assoc, append-nil, arith, length-append, length-drop}
+use Rattle.std.proofs.Common.{◌≡◌, ℕ, zero, suc, ◌+◌, ◌*◌, ◌≤◌, List, [], ◌∷◌, ◌++◌, length, get_or, take, drop, None, Ok, Err, Result, sym, refl, ap, ◌∙◌, subst, inl, inr, ⊎_elim, append_assoc, append-nil, arith, length-append, length-drop}
 use Rattle.std.specs.List.{flat_map, AllByRecursion}
 use Rattle.std.proofs.lemmas.List.{take_at, drop_at, drop-drop, get_or_at, take-append-drop, length-take-le, drop_more, nil_from_length}
-use Rattle.std.proofs.lemmas.Bool.{cases_eq, cond-false, le-ltb}
+use Rattle.std.proofs.lemmas.Bool.{cases_eq}
 use Rattle.std.proofs.lemmas.Bool.Decides.{nat_tests}
 use Rattle.refusal.specs.declared.Refusal.{Refusal}
 use Rattle.refusal.specs.declared.Refusal.TheVariants.{Tray}
@@ -10,12 +10,12 @@ use Rattle.buffers.specs.Places.{unless}
 use Rattle.buffers.proofs.Steps.{both_none, shifted_none, clear}
 use Rattle.sending.specs.Sendings.{Message}
 use Rattle.tray.specs.Trays.{Fault, message_bytes, fault_bytes, fault_section, tray_bytes, IsMessage, IsFault, IsTray}
-use Rattle.tray.specs.Reading.{message_size, message_fault, message_of, messages_fault, messages_end, messages_of, fault_fault, fault_of, faults_fault, faults_of, message_count, section_place, fault_count, end_place, count_fault, section_fault, rest_fault, tray_fault, right_only, messages_in, faults_in, tray_items, entries_in}
+use Rattle.tray.specs.Reading.{message_size, message_fault, message_of, messages_fault, messages_end, messages_of, fault_fault, fault_of, faults_fault, faults_of, message_count, section_place, fault_count, count_fault, section_fault, rest_fault, tray_fault, right_only, messages_in, faults_in, tray_items}
 use Rattle.tray.specs.Laws.{ReadAs, ReadsBack, OneReading, HasOneReading}
 use Rattle.tray.proofs.Writings.{faults_length}
 use Rattle.tray.proofs.Rows.{message_room, messages_more, fault_room, faults_more}
 use Rattle.tray.proofs.Ahead.{message_length}
-use Rattle.tray.proofs.Openings.{last_5, Passed, passed}
+use Rattle.tray.proofs.Openings.{last_5, passed}
 
 -- ---- one entry, written and read
 good_message : (m : Message) (rest : List ℕ) → IsMessage m → message_fault (message_bytes m ++ rest) ≡ None

@@ -1,5 +1,5 @@
 -- The entries of an accepted tray, before the first is given.
-use Rattle.std.proofs.Common.{◌≡◌, ℕ, ◌+◌, false, List, [], ◌∷◌, ◌++◌, length, get_or, drop, is_some, None, sym, refl, ap, ◌∙◌, arith}
+use Rattle.std.proofs.Common.{◌≡◌, ℕ, ◌+◌, false, List, [], ◌∷◌, ◌++◌, length, get_or, drop, is_some, sym, ap, ◌∙◌, arith}
 use Rattle.std.specs.List.{flat_map}
 use Rattle.tray.specs.Trays.{message_bytes}
 use Rattle.tray.specs.Reading.{messages_fault, faults_fault, messages_of, faults_of, message_items, fault_items, message_count, section_place, fault_count, tray_fault, right_only, messages_in, faults_in, entries_in}

@@ -1,8 +1,8 @@
 -- What writes into a tray come to: messages behind messages, faults behind faults, a finished tray.
-use Rattle.std.proofs.Common.{◌≡◌, ℕ, suc, ◌+◌, ◌-◌, ◌*◌, ◌<◌, ◌≤◌, Bool, true, false, cond, eqb, ltb, List, [], ◌∷◌, ◌++◌, map, length, get_or, take, drop, set, Some, None, Option, sym, refl, ap, ◌∙◌, append_assoc, arith, length-append, length-set}
+use Rattle.std.proofs.Common.{◌≡◌, ℕ, suc, ◌+◌, ◌*◌, ◌<◌, ◌≤◌, false, eqb, List, [], ◌∷◌, ◌++◌, map, length, get_or, take, drop, set, Some, Option, sym, refl, ap, ◌∙◌, arith, length-append, length-set}
 use Rattle.std.specs.List.{flat_map}
 use Rattle.std.proofs.lemmas.List.{length-map, length-take-le, take_more, take_more_set, map_push, flat_map_more}
-use Rattle.std.proofs.lemmas.Bool.{cond-false, cond-true, or_from, ne_eqb, le-ltb}
+use Rattle.std.proofs.lemmas.Bool.{cond-false, or_from, ne_eqb, le-ltb}
 use Rattle.std.proofs.lemmas.Bool.Decides.{nat_tests}
 use Rattle.buffers.specs.Laid.{laid}
 use Rattle.buffers.proofs.Lays.{laid_laid, length_laid, set_laid}
@@ -11,7 +11,7 @@ use Rattle.tray.specs.declared.fault.Fault as code
 use Rattle.tray.specs.declared.fault.Faults.{Faults}
 use Rattle.tray.specs.Trays.{Fault, message_bytes, fault_bytes, fault_section, tray_bytes}
 use Rattle.tray.specs.Model.{fault_said, fault_list}
-use Rattle.tray.specs.Writing.{no_room, message_unfit, message_put, section_end, section_put, finish_unfit, finish_end, finish_put, holding, behind, Adds, Whole, Finishes}
+use Rattle.tray.specs.Writing.{no_room, message_unfit, message_put, section_end, section_put, finish_unfit, finish_end, finish_put, Adds, Finishes}
 
 -- a list keeps as many faults as it counts
 pub listed : (fs : Faults) → length (fault_list fs) ≡ fs.count

@@ -3,7 +3,7 @@ use Rattle.std.specs.Prelude.{ℕ, zero, suc, ◌+◌, ◌*◌, cond, ◌||◌, 
 use Rattle.std.specs.List.{flat_map}
 use Rattle.buffers.specs.Places.{or_else, shifted}
 use Rattle.sending.specs.Sendings.{Message}
-use Rattle.tray.specs.Trays.{Fault, message_bytes, fault_bytes}
+use Rattle.tray.specs.Trays.{Fault, message_bytes}
 
 -- ---- one entry, at the front of some bytes
 -- how many bytes the message takes, by its length byte

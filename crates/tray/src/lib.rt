@@ -1,5 +1,7 @@
 // The tray in which an offer's messages and faults are handed over: its bytes, writing them and reading them back.
 // This crate knows nothing of lines, of payloads or of how messages come about.
+#![tactic(auto)]
+
 mod entry;
 mod fault;
 mod limits;

@@ -1,5 +1,5 @@
 -- 1X finds no run-in in a line that carries a 2X payload: the zero at place 3 lies above the one at place 6.
-use Rattle.std.specs.Prelude.{◌≡◌, ℕ, ◌+◌, ◌-◌, ◌*◌, ◌<◌, ◌≤◌, true, List, length, None, slice_index, slice_index_or}
+use Rattle.std.specs.Prelude.{◌≡◌, ℕ, ◌+◌, ◌-◌, ◌*◌, ◌<◌, true, List, length, None, slice_index, slice_index_or}
 use Rattle.std.proofs.Common.{subst, ap, ◌∙◌, mul-add, mul_left_comm, arith}
 use Rattle.std.proofs.lemmas.Bool.{cond-false, le-ltb}
 use Rattle.line.specs.declared.depth.Depth.{Depth}

@@ -1,6 +1,6 @@
 -- Levels with equal gaps, the cuts between them, and what a symbol is read as by the cuts.
 use Rattle.std.specs.Prelude.{◌≡◌, ℕ, zero, suc, ◌+◌, ◌*◌, ◌<◌, ◌≤◌, Bool, true, ◌&&◌, List, [], ◌∷◌, length, ◌==◌, slice_index, slice_index_or, refl}
-use Rattle.std.proofs.Common.{sym, ap, ◌∙◌, suc-mul, zero-mul, mul-add, mul_left_comm, le_refl, arith}
+use Rattle.std.proofs.Common.{ap, ◌∙◌, suc-mul, zero-mul, mul-add, mul_left_comm, le_refl, arith}
 use Rattle.std.proofs.lemmas.Bool.{and_parts, eqb-true}
 use Rattle.std.proofs.lemmas.Nat.{mul-le}
 use Rattle.line.specs.Symbols.{value_of}

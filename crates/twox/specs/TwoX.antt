@@ -1,5 +1,5 @@
 -- 2X, over the level S of each symbol and the weight w of a symbol.
-use Rattle.std.specs.Prelude.{◌≡◌, ℕ, ◌+◌, ◌*◌, ◌<◌, Bool, true, cond, ◌&&◌, List, [], ◌∷◌, length, Some, None, Option, ◌==◌}
+use Rattle.std.specs.Prelude.{ℕ, ◌+◌, ◌*◌, ◌<◌, Bool, true, cond, ◌&&◌, List, [], ◌∷◌, length, Some, None, Option, ◌==◌}
 use Rattle.line.specs.declared.depth.Depth.{Depth}
 use Rattle.line.specs.declared.reading.Cuts.{Cuts}
 use Rattle.line.specs.declared.reading.Cuts.TheVariants.{Three}

@@ -1,16 +1,16 @@
 -- Blocks of sendings are read back from their wire forms.
-use Rattle.std.proofs.Common.{◌≡◌, ℕ, zero, suc, ◌+◌, ◌-◌, ◌*◌, ◌/◌, ◌%◌, ◌^◌, ◌<◌, ◌≤◌, Bool, true, false, cond, not, ◌&&◌, eqb, ltb, List, [], ◌∷◌, ◌++◌, length, get_or, take, drop, replicate, Some, None, Option, sym, refl, ap, ◌∙◌, subst, ⊎_elim, append_assoc, mod-eq_of_lt, arith, length-append}
+use Rattle.std.proofs.Common.{◌≡◌, ℕ, zero, suc, ◌+◌, ◌-◌, ◌*◌, ◌/◌, ◌%◌, ◌^◌, ◌<◌, ◌≤◌, Bool, true, false, cond, not, ◌&&◌, eqb, ltb, List, [], ◌∷◌, ◌++◌, length, get_or, take, drop, replicate, Some, None, sym, refl, ap, ◌∙◌, subst, ⊎_elim, append_assoc, mod-eq_of_lt, arith, length-append}
 use Rattle.std.specs.List.{flat_map, AllByRecursion}
 use Rattle.std.proofs.lemmas.Bool.{eq-eqb, ne_eqb, lt-ltb, cases_eq}
 use Rattle.std.proofs.lemmas.List.{take_at, drop_at}
 use Rattle.crc.specs.Crc.{crc}
 use Rattle.crc.proofs.Bounds.{crc_below}
-use Rattle.sending.specs.Sendings.{Sending, Block, IsSending, block, message, last_part}
+use Rattle.sending.specs.Sendings.{Sending, Block, block, message, last_part}
 use Rattle.wire.specs.Wire.{word_bytes, check_bytes, count, head, covered, block_bytes}
 use Rattle.sending.proofs.Rules.{numbers}
-use Rattle.walk.specs.Fields.{word, count_of, part_of, last_of, has_check, cause_at, block_at}
-use Rattle.walk.specs.Entries.{Item, read, scan, entries, blocks_read}
-use Rattle.walk.specs.Laws.{OfASending, payload_of, placed_from, ReadsSentBlocks}
+use Rattle.walk.specs.Fields.{word, part_of, last_of, has_check, cause_at, block_at}
+use Rattle.walk.specs.Entries.{read, scan, entries, blocks_read}
+use Rattle.walk.specs.Laws.{OfASending, placed_from, ReadsSentBlocks}
 use Rattle.walk.proofs.Scans.{sound, scan_end, scan_entry, item_block, past_block}
 
 split_back : (w q r : ℕ) → q ≡ w / 16777216 → r ≡ q → r * 16777216 + w / 65536 % 256 * 65536 + w / 256 % 256 * 256 + w % 256 ≡ w

@@ -1,5 +1,5 @@
 -- Steps of a walk over bytes: where it ends, and what one entry is and takes.
-use Rattle.std.proofs.Common.{◌≡◌, ℕ, zero, suc, ◌+◌, ◌-◌, ◌<◌, ◌≤◌, min, Bool, true, false, cond, eqb, List, [], ◌∷◌, ◌++◌, length, get_or, take, drop, Some, sym, refl, ap, ◌∙◌, subst, ⊎_elim, add-zero, arith}
+use Rattle.std.proofs.Common.{◌≡◌, ℕ, zero, suc, ◌+◌, ◌-◌, ◌<◌, ◌≤◌, min, Bool, true, false, cond, eqb, List, [], ◌∷◌, length, get_or, take, drop, Some, sym, refl, ap, ◌∙◌, ⊎_elim, add-zero, arith}
 use Rattle.std.proofs.lemmas.Bool.Decides.{nat_tests}
 use Rattle.std.proofs.lemmas.Bool.{cond-true, cond-false, cond_both, eq-eqb, ne_eqb, cases_lt}
 use Rattle.std.proofs.lemmas.List.{drop_all}
@@ -8,7 +8,7 @@ use Rattle.walk.specs.declared.entry.Entry.{Entry}
 use Rattle.walk.specs.declared.entry.Cause.{Cause}
 use Rattle.walk.specs.declared.entry.Cause.TheVariants.{Torn, Crc, Part, Short}
 use Rattle.walk.specs.Fields.{word, count_of, part_of, last_of, least_count, cause_at, cause_number, block_at}
-use Rattle.walk.specs.Entries.{Item, read, fault, item_at, finishes, taken, scan, item}
+use Rattle.walk.specs.Entries.{read, fault, item_at, finishes, taken, scan, item}
 use Rattle.walk.specs.Steps.{Found}
 
 -- ---- what the causes leave

@@ -1,5 +1,5 @@
 -- Where entries lie in their payload, how many there are, and what holds of a block that is read.
-use Rattle.std.proofs.Common.{◌≡◌, ℕ, zero, suc, ◌+◌, ◌-◌, ◌*◌, ◌<◌, ◌≤◌, Bool, true, false, cond, eqb, List, [], ◌∷◌, ◌++◌, length, get_or, take, drop, Some, None, sym, refl, ap, ◌∙◌, subst, add-zero, arith, length-drop, length-take}
+use Rattle.std.proofs.Common.{◌≡◌, ℕ, zero, suc, ◌+◌, ◌-◌, ◌*◌, ◌≤◌, Bool, true, false, cond, eqb, List, [], ◌∷◌, length, get_or, take, drop, Some, None, sym, refl, ap, ◌∙◌, subst, add-zero, arith, length-drop, length-take}
 use Rattle.std.specs.List.{AllByRecursion}
 use Rattle.std.proofs.lemmas.Bool.Decides.{nat_tests}
 use Rattle.std.proofs.lemmas.Bool.{cond_both, eqb-true}
@@ -8,7 +8,7 @@ use Rattle.crc.specs.Crc.{crc}
 use Rattle.wire.specs.Wire.{check_bytes, block_bytes}
 use Rattle.wire.proofs.Wires.{length_block}
 use Rattle.walk.specs.Fields.{word, count_of, has_check, cause_at, block_at}
-use Rattle.walk.specs.Entries.{Item, read, fault, item_at, finishes, scan, entries, blocks_read}
+use Rattle.walk.specs.Entries.{Item, read, item_at, finishes, scan, entries, blocks_read}
 use Rattle.walk.specs.Laws.{place_of, end_of, InLine, Apart, Few, Right}
 use Rattle.walk.proofs.Scans.{fits, room, crc_holds, in_order}
 

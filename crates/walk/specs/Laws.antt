@@ -5,7 +5,7 @@ use Rattle.crc.specs.Crc.{crc}
 use Rattle.sending.specs.Sendings.{Sending, Block, IsBlockOf}
 use Rattle.wire.specs.Wire.{block_bytes}
 use Rattle.walk.specs.Fields.{word}
-use Rattle.walk.specs.Entries.{Item, read, fault, entries, blocks_read}
+use Rattle.walk.specs.Entries.{Item, read, fault, blocks_read}
 
 -- b is a block of some sending
 abbrev pub OfASending : Block → Type 0

@@ -1,5 +1,5 @@
 -- How long the pieces of a block are.
-use Rattle.std.proofs.Common.{◌≡◌, ℕ, ◌+◌, ◌-◌, ◌≤◌, List, [], ◌++◌, length, Some, None, Option, refl, ap, ◌∙◌, arith}
+use Rattle.std.proofs.Common.{◌≡◌, ℕ, ◌+◌, ◌-◌, ◌≤◌, length, Some, None, Option, refl, arith}
 use Rattle.std.proofs.lemmas.List.{length-append}
 use Rattle.sending.specs.Sendings.{Block}
 use Rattle.wire.specs.Wire.{check_bytes, count, head, covered, block_bytes}

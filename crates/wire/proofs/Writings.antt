@@ -1,5 +1,5 @@
 -- What asking for a block answers, how long it is, and what writing it answers and leaves.
-use Rattle.std.proofs.Common.{◌≡◌, ℕ, ◌+◌, ◌-◌, ◌<◌, ◌≤◌, Bool, true, false, cond, ltb, List, [], length, get_or, None, Ok, Err, Result, sym, refl, ap, ◌∙◌, subst, inr, arith}
+use Rattle.std.proofs.Common.{◌≡◌, ℕ, ◌+◌, ◌<◌, ◌≤◌, Bool, true, false, cond, ltb, List, [], length, Ok, Err, Result, sym, refl, ap, ◌∙◌, inr, arith}
 use Rattle.refusal.specs.declared.Refusal.{Refusal}
 use Rattle.refusal.specs.declared.Refusal.TheVariants.{OutputLength, NotOfASending}
 use Rattle.std.proofs.lemmas.List.{get_or_past}
@@ -9,7 +9,7 @@ use Rattle.sending.specs.Sendings.{Sending, Block, IsSending, block}
 use Rattle.wire.specs.Wire.{check_bytes, block_bytes}
 use Rattle.wire.specs.Writing.{size, wanted_size, writing, written}
 use Rattle.sending.specs.Wanted.{wanted}
-use Rattle.sending.proofs.Rules.{numbers, part_short}
+use Rattle.sending.proofs.Rules.{part_short}
 use Rattle.sending.proofs.Wants.{check_none}
 use Rattle.wire.proofs.Wires.{length_block, length_check}
 

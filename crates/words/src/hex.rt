@@ -28,7 +28,7 @@ fn byte(high: u8, low: u8) -> Option<u8> {
 // The bytes that a word writes: two digits each. No bytes are `-`, or an empty word.
 pub fn read_hex(heap: Global, word: &[u8]) -> Result<Vec<u8>, Stop> {
     let mut bytes = Vec::new(heap);
-    if word == b"-" {
+    if word == b"-".as_slice() {
         return Ok(bytes);
     }
     if word.len() % 2 != 0 {

@@ -29,7 +29,7 @@ pub fn read_numbers(heap: Global, word: &[u8]) -> Result<Vec<u8>, Stop> {
 // The rows of bytes that a word writes; a lone point writes none.
 pub fn read_parts(heap: Global, word: &[u8]) -> Result<Vec<Vec<u8>>, Stop> {
     let mut parts = Vec::new(heap);
-    if word == b"." {
+    if word == b".".as_slice() {
         return Ok(parts);
     }
     for piece in Pieces::new(word, b',') {

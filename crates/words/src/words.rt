@@ -88,7 +88,7 @@ impl<'a> Words<'a> {
         ensures { IfOk result (λ value. IfSome value (λ n. n ≤ most)) }
     {
         let word = self.word()?;
-        if word == b"-" {
+        if word == b"-".as_slice() {
             return Ok(None);
         }
         match read_decimal(word, most) {

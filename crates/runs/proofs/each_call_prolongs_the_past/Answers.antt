@@ -1,4 +1,3 @@
-use Rattle.std.proofs.Common.{rules}
 use Rattle.runs.proofs.each_call_prolongs_the_past.Goals as goal
 use Rattle.runs.proofs.Pasts.{calls_prolong}
 

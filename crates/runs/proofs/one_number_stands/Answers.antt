@@ -1,4 +1,3 @@
-use Rattle.std.proofs.Common.{rules}
 use Rattle.runs.proofs.one_number_stands.Goals as goal
 use Rattle.runs.proofs.Pasts.{number_stands}
 

@@ -1,4 +1,4 @@
-use Rattle.std.proofs.Common.{◌≡◌, None, ◌∙◌, arith}
+use Rattle.std.proofs.Common.{◌≡◌, ◌∙◌, arith}
 use Rattle.std.proofs.lemmas.Result.{err_from_is_err_and}
 use Rattle.body.specs.Reading.{content_fault, content_of, until_fault, until_of, id_fault, id_of}
 use Rattle.refusal.specs.declared.Refusal.TheVariants.{Body}

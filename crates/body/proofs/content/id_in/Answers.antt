@@ -1,7 +1,7 @@
-use Rattle.std.proofs.Common.{◌≡◌, ℕ, ◌-◌, eqb, List, take, drop, Some, None, Option, sym, ap, ◌∙◌, arith}
+use Rattle.std.proofs.Common.{◌≡◌, ◌-◌, take, drop, Some, None, sym, ap, ◌∙◌, arith}
 use Rattle.std.proofs.lemmas.Bool.Decides.{nat_tests}
 use Rattle.body.specs.Identifiers.{is_alphanumeric, misspelt}
-use Rattle.body.specs.Reading.{id_at, id_of, type_of, size_of}
+use Rattle.body.specs.Reading.{id_of, type_of, size_of}
 use Rattle.body.proofs.Parts.{front_part}
 use Rattle.body.proofs.content.id_in.Goals as goal
 

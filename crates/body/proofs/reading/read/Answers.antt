@@ -1,13 +1,13 @@
-use Rattle.std.proofs.Common.{◌≡◌, ◌+◌, ◌<◌, ◌≤◌, cond, ltb, length, Some, None, sym, ap, ◌∙◌, subst, arith}
+use Rattle.std.proofs.Common.{◌≡◌, ◌+◌, ◌<◌, ◌≤◌, cond, length, Some, sym, ap, ◌∙◌, subst, arith}
 use Rattle.std.proofs.lemmas.Result.{err_from_is_err_and}
 use Rattle.std.proofs.lemmas.Bool.{lt-ltb, le-ltb}
 use Rattle.body.specs.Reading.{content_part_fault, has_content, has_channel, channel_at, end_of, channel_of, channel_fault, content_of, content_id_fault, content_id_of}
 use Rattle.refusal.specs.declared.Refusal.TheVariants.{Body}
 use Rattle.body.specs.Identifiers.{is_alphanumeric}
-use Rattle.body.specs.Messages.{Said, content_id, option, identified, said_content_id}
+use Rattle.body.specs.Messages.{content_id, said_content_id}
 use Rattle.buffers.specs.Places.{part, present}
 use Rattle.buffers.proofs.Steps.{clear, refused, refuses, done, stop, fails, passes}
-use Rattle.body.specs.Tests.{channel_part, end_part, empty_fault, flags_fault, fault_at_content, fault_at_channel, fault_at_end}
+use Rattle.body.specs.Tests.{channel_part, empty_fault, flags_fault, fault_at_content, fault_at_channel, fault_at_end}
 use Rattle.body.proofs.reading.read.Goals as goal
 
 pub returns-then-body-lt-FLAGS_SIZE : goal.returns-then-body-lt-FLAGS_SIZE

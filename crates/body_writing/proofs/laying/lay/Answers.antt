@@ -1,4 +1,4 @@
-use Rattle.std.proofs.Common.{length, refl, arith}
+use Rattle.std.proofs.Common.{refl, arith}
 use Rattle.buffers.proofs.Lays.{laid_from_mid}
 use Rattle.body_writing.proofs.laying.lay.Goals as goal
 

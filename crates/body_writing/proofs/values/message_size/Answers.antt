@@ -1,4 +1,4 @@
-use Rattle.std.proofs.Common.{arith, rules}
+use Rattle.std.proofs.Common.{rules}
 use Rattle.std.proofs.lemmas.List.{length-append}
 use Rattle.body.specs.Format.{content_id_bytes}
 use Rattle.body_writing.proofs.values.message_size.Goals as goal

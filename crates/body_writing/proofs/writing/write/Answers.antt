@@ -1,4 +1,4 @@
-use Rattle.std.proofs.Common.{◌≡◌, length, None, sym, arith}
+use Rattle.std.proofs.Common.{◌≡◌, None, sym, arith}
 use Rattle.body.specs.Format.{ones, content_id_bytes, content_id_wrong}
 use Rattle.body.specs.Identifiers.{is_alphanumeric}
 use Rattle.body.specs.Messages.{said_content_id}

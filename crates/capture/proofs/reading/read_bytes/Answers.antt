@@ -21,8 +21,8 @@ returns c =
     let n : (length bytes / 2) - 0 ≡ length bytes / 2 = omega arith in
     let line : take ((length bytes / 2) - 0) c.gather.new.line ≡ samples_of bytes = ap (λ k. take k c.gather.new.line) n ∙ c.gather.ensures in
     record {
-      answer = c.read-samples.ensures.answer
+      answer = c.read_samples.ensures.answer
           ∙ ap (λ l. read_answer (line_fault d l) (one_two_found d l) room) line
           ∙ ap (λ f. read_answer f (one_two_found d (samples_of bytes)) room) (sym (whole_fault d bytes c.if-bytes-ne0.false));
-      payload = c.read-samples.ensures.payload ∙ ap (λ l. read_buffer c.read-samples.result (one_two_found d l) c.args.payload.now) line;
+      payload = c.read_samples.ensures.payload ∙ ap (λ l. read_buffer c.read_samples.result (one_two_found d l) c.args.payload.now) line;
     }

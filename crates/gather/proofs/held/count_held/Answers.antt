@@ -1,4 +1,4 @@
-use Rattle.std.proofs.Common.{◌≡◌, ℕ, ◌+◌, ◌≤◌, true, false, [], sym, ap, ◌∙◌, arith}
+use Rattle.std.proofs.Common.{◌≡◌, ℕ, true, false, [], ap, ◌∙◌, arith}
 use Rattle.gather.specs.Model.{held_in}
 use Rattle.gather.specs.Serving.{counted}
 use Rattle.gather.proofs.Counts.{count_more}

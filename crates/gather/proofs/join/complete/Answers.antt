@@ -1,4 +1,4 @@
-use Rattle.std.proofs.Common.{◌≡◌, ℕ, ◌+◌, ◌<◌, [], get_or, None, sym, ◌∙◌, arith}
+use Rattle.std.proofs.Common.{ℕ, ◌+◌, ◌<◌, [], get_or, None, sym, ◌∙◌, arith}
 use Rattle.gather.specs.Model.{held_in}
 use Rattle.gather.proofs.Joins.{held_some, full_all, full_lacks}
 use Rattle.gather.proofs.join.complete.Goals as goal

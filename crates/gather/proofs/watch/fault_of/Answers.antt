@@ -1,4 +1,4 @@
-use Rattle.std.proofs.Common.{◌≡◌, ℕ, ◌<◌, ◌≤◌, length, sym, ap, ◌∙◌, arith}
+use Rattle.std.proofs.Common.{◌≡◌, ◌<◌, ◌≤◌, length, sym, ◌∙◌, arith}
 use Rattle.std.proofs.lemmas.Bool.{eqb-true, eqb-false}
 use Rattle.gather.proofs.Lists.{wrong_here, wrong_on, wrong_end, fault_empty, fault_wrong, fault_long, fault_none}
 use Rattle.gather.proofs.watch.fault_of.Goals as goal

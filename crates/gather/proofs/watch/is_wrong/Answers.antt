@@ -1,4 +1,4 @@
-use Rattle.std.proofs.Common.{◌≡◌, ℕ, ◌<◌, ◌≤◌, length, get_or, sym, ◌∙◌, arith}
+use Rattle.std.proofs.Common.{ℕ, ◌<◌, ◌≤◌, length, get_or, sym, arith}
 use Rattle.gather.proofs.Slots.{absent_more}
 use Rattle.gather.proofs.Lists.{wrong_zero, wrong_earlier, wrong_not}
 use Rattle.gather.proofs.watch.is_wrong.Goals as goal

@@ -1,4 +1,4 @@
-use Rattle.std.proofs.Common.{◌≡◌, ℕ, ◌*◌, ◌<◌, sym, arith}
+use Rattle.std.proofs.Common.{sym, arith}
 use Rattle.line.proofs.Legal.{line_legal, most_each}
 use Rattle.line.proofs.checks.line_fault.Goals as goal
 

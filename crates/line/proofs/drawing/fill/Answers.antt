@@ -1,7 +1,7 @@
-use Rattle.std.proofs.Common.{◌≡◌, ℕ, ◌+◌, ◌/◌, ◌<◌, length, get_or, set, sym, ap, ◌∙◌, subst, arith, rules}
+use Rattle.std.proofs.Common.{◌≡◌, ℕ, ◌+◌, ◌/◌, ◌<◌, length, get_or, set, sym, ap, ◌∙◌, subst, arith}
 use Rattle.std.proofs.lemmas.List.Edits.{fill_by_more}
 use Rattle.std.proofs.lemmas.List.FromFn.{fill_by_all}
-use Rattle.line.specs.Symbols.{symbol_of, symbol_at, weight}
+use Rattle.line.specs.Symbols.{symbol_of, symbol_at}
 use Rattle.line.proofs.Sizes.{symbol_below, weight_pos}
 use Rattle.line.proofs.drawing.fill.Goals as goal
 

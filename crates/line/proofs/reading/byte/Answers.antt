@@ -1,5 +1,5 @@
-use Rattle.std.proofs.Common.{◌≡◌, ℕ, ◌+◌, ◌*◌, ◌/◌, ◌^◌, ◌<◌, ◌≤◌, length, ap, ◌∙◌, subst, mul-suc, add-one, arith, rules}
-use Rattle.line.proofs.Sizes.{symbol_place, base_small, more_fits, byte_more}
+use Rattle.std.proofs.Common.{◌≡◌, ℕ, ◌+◌, ◌*◌, ◌/◌, length, ap, ◌∙◌, arith, rules}
+use Rattle.line.proofs.Sizes.{symbol_place, more_fits, byte_more}
 use Rattle.line.specs.Symbols.{value_of, level_at}
 use Rattle.line.proofs.reading.byte.Goals as goal
 

@@ -1,5 +1,4 @@
-use Rattle.std.proofs.Common.{◌≡◌, ℕ, ◌+◌, ◌-◌, ◌*◌, ◌<◌, ◌⊎◌, length, ◌∙◌, subst, inl, inr, arith}
-use Rattle.line.specs.Symbols.{weight}
+use Rattle.std.proofs.Common.{◌≡◌, ℕ, ◌+◌, ◌-◌, ◌*◌, ◌<◌, length, ◌∙◌, subst, inl, inr, arith}
 use Rattle.line.proofs.Sizes.{symbol_some, symbol_none}
 use Rattle.line.proofs.symbols.symbol.Goals as goal
 

@@ -1,5 +1,4 @@
-use Rattle.std.proofs.Common.{◌≡◌, ◌%◌, ◌≤◌, true, false, sym, arith, rules}
-use Rattle.line.specs.Lines.{good_count}
+use Rattle.std.proofs.Common.{sym, arith, rules}
 use Rattle.line.proofs.Sizes.{count_parts, weight_good, weight_bad}
 use Rattle.line.proofs.symbols.weight.Goals as goal
 

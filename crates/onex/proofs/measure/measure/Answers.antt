@@ -1,8 +1,7 @@
-use Rattle.std.proofs.Common.{◌≡◌, ℕ, ◌+◌, min, max, Bool, true, false, cond, not, ap, ◌∙◌, inl, inr, arith}
+use Rattle.std.proofs.Common.{◌≡◌, ℕ, min, max, Bool, cond, not, ap, ◌∙◌, inl, inr, arith}
 use Rattle.std.proofs.lemmas.Bool.{cases_Bool}
 use Rattle.line.specs.Symbols.{level_at}
-use Rattle.onex.specs.OneX.{largest, smallest}
-use Rattle.onex.specs.Folds.{places, zero_at, one_at, fold_yes, fold_no}
+use Rattle.onex.specs.Folds.{zero_at, one_at, fold_yes, fold_no}
 use Rattle.onex.proofs.measure.measure.Goals as goal
 
 pub loop-k-preserved : goal.loop-k-preserved

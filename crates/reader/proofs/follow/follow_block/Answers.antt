@@ -1,15 +1,14 @@
-use Rattle.std.proofs.Common.{◌≡◌, ℕ, ◌+◌, ◌-◌, ◌<◌, ◌≤◌, min, Bool, true, false, cond, List, length, take, drop, sym, refl, ap, ◌∙◌, subst, arith, rules}
+use Rattle.std.proofs.Common.{◌≡◌, ℕ, ◌-◌, ◌≤◌, true, cond, List, length, take, sym, refl, ap, ◌∙◌, subst, arith, rules}
 use Rattle.std.proofs.lemmas.List.{length-take-le}
 use Rattle.sending.specs.Sendings.{Block, Message}
 use Rattle.sending.specs.Model.{means}
-use Rattle.gather.specs.Gathering.{Answer, silent, handed, faulty, answer}
+use Rattle.gather.specs.Gathering.{silent, handed, faulty, answer}
 use Rattle.gather.specs.Arriving.{Table, watched, answer_to}
 use Rattle.gather.specs.Watching.{fits_slot}
 use Rattle.gather.specs.Model.{watching, gathered}
-use Rattle.gather.specs.Serving.{said, arrival, reply}
+use Rattle.gather.specs.Serving.{said, arrival}
 use Rattle.gather.specs.declared.slot.Arrival.{Arrival}
 use Rattle.gather.specs.declared.slot.Arrival.TheVariants.{NotWatched, Unfit, Silent, Message as Handed, Faulty}
-use Rattle.reader.specs.Entered.{Good}
 use Rattle.reader.specs.Stands.{HandsOver}
 use Rattle.reader.proofs.Arrived.{small_fits, not_watched, never_unfit, is_silent, is_faulty, is_message}
 use Rattle.reader.proofs.Tells.{told_nothing, told_fault, told_message}

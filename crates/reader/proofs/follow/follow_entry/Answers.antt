@@ -1,4 +1,4 @@
-use Rattle.std.proofs.Common.{◌≡◌, ℕ, sym, refl, ap, ◌∙◌, subst}
+use Rattle.std.proofs.Common.{◌≡◌, sym, refl, ap, ◌∙◌, subst}
 use Rattle.walk.specs.Entries.{Item, fault, item}
 use Rattle.walk.specs.Fields.{cause_number}
 use Rattle.gather.specs.Model.{watching, gathered}

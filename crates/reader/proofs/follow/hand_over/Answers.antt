@@ -1,8 +1,7 @@
-use Rattle.std.proofs.Common.{◌≡◌, ℕ, ◌+◌, ◌<◌, ◌≤◌, min, List, [], ◌∷◌, ◌++◌, length, Some, None, sym, refl, ap, ◌∙◌, arith}
+use Rattle.std.proofs.Common.{◌≡◌, ◌+◌, length, Some, refl, ap, ◌∙◌, arith}
 use Rattle.std.proofs.lemmas.List.{length_push}
 use Rattle.sending.specs.Sendings.{Message}
 use Rattle.tray.specs.Trays.{message_bytes}
-use Rattle.tray.specs.Writing.{message_end, holding, behind}
 use Rattle.reader.proofs.Handing.{behind_more, message_fits, holding_length}
 use Rattle.reader.proofs.follow.hand_over.Goals as goal
 

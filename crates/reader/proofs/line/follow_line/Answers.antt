@@ -1,10 +1,10 @@
-use Rattle.std.proofs.Common.{◌≡◌, ℕ, ◌+◌, ◌<◌, ◌≤◌, List, [], ◌∷◌, length, get_or, sym, refl, ap, ◌∙◌, subst, arith, rules}
+use Rattle.std.proofs.Common.{◌≡◌, ℕ, List, [], ◌∷◌, sym, refl, ap, ◌∙◌, subst, arith, rules}
 use Rattle.std.specs.List.{AllByRecursion}
-use Rattle.walk.specs.Entries.{Item, entries, item}
+use Rattle.walk.specs.Entries.{entries, item}
 use Rattle.walk.specs.Steps.{ahead}
 use Rattle.gather.specs.Model.{watching, gathered}
 use Rattle.reader.specs.Entered.{Good}
-use Rattle.reader.specs.Following.{Progress, follow, follow_all, at_start}
+use Rattle.reader.specs.Following.{follow, follow_all, at_start}
 use Rattle.reader.specs.Stands.{Stands}
 use Rattle.reader.proofs.Entered.{entries_good}
 use Rattle.reader.proofs.Lines.{begins, Left, room_for, left_after, ended}

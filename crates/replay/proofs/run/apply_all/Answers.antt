@@ -9,10 +9,10 @@ loop-call-preserved g c =
     let L = g.L.LineSystem in
     let first = c.args.reader.now in
     let inv = c.loop-call.invariant in
-    let told = c.in-ok-outcome.ensures in
-    let pushed = chosen _ _ _ _ c.push.ensures.items (ap is_ok c.in-ok-push.was) in (
+    let told = c.in_ok-outcome.ensures in
+    let pushed = chosen _ _ _ _ c.push.ensures.items (ap is_ok c.in_ok-push.was) in (
       told.same ∙ inv.0,
-      sofar_on (setting L.depth L.found first) (state first) c.args.calls.now (setting L.depth L.found c.loop-call.reader) inv.0 (state c.loop-call.reader) (state c.apply.new.reader) _ _ c.loop-call.call-index _ c.in-ok-outcome.outcome
+      sofar_on (setting L.depth L.found first) (state first) c.args.calls.now (setting L.depth L.found c.loop-call.reader) inv.0 (state c.loop-call.reader) (state c.apply.new.reader) _ _ c.loop-call.call-index _ c.in_ok-outcome.outcome
           c.loop-call-test.true pushed told.outcome told.next told.prolongs inv.1,
     )
 

@@ -32,8 +32,8 @@ returns-in-Restart g c =
       prolongs = λ past reached. subst (λ (k : Call). Reached s (past ++ record { call = call_of k; outcome = restarts } ∷ []) (state c.restart.new.self)) call (e.keeps_the_promise past reached).0;
     }
 
-pub returns-in-ok-tray : goal.returns-in-ok-tray
-returns-in-ok-tray g c =
+pub returns-in_ok-tray-in-Offer : goal.returns-in_ok-tray-in-Offer
+returns-in_ok-tray-in-Offer g c =
     let r = c.args.reader.now in
     let L = g.L.LineSystem in
     let s = setting L.depth L.found r in
@@ -41,8 +41,8 @@ returns-in-ok-tray g c =
     let line = c.in-Offer.line.now in
     let call = sym c.in-Offer.is in
     let e = c.offer-result.ensures in
-    let copy = c.deref-mut.ensures.value ∙ c.in-ok-tray.ensures.items-if-clones-equal (λ x y k. k) in
-    let back = take_at c.offer-result.new.tray _ c.in-ok-tray.tray.len (c.offer-result.auto.tray ∙ c.deref-mut.ensures.len) in
+    let copy = c.deref_mut.ensures.value ∙ c.in_ok-tray-in-Offer.ensures.items-if-clones-equal (λ x y k. k) in
+    let back = take_at c.offer-result.new.tray _ c.in_ok-tray-in-Offer.tray.len (c.offer-result.auto.tray ∙ c.deref_mut.ensures.len) in
     let entry : ◌≡◌ {A = Entry} _ _ = λ i. record {
       call = (ap (offer t line) copy ∙ ap call_of call) i;
       outcome = (as_past c.offer-result.result c.offer-result.new.tray ∙ ap (λ (x : List ℕ). outcome_of (offered (told c.offer-result.result) x)) (sym back)) i;

@@ -1,5 +1,5 @@
-use Rattle.std.proofs.Common.{◌≡◌, ℕ, ◌<◌, ◌≤◌, false, List, length, take, sym, refl, ap, ◌∙◌, subst, arith}
-use Rattle.sending.specs.Sendings.{Sending, IsSending}
+use Rattle.std.proofs.Common.{ℕ, ◌≤◌, List, length, sym, ap, subst, arith}
+use Rattle.sending.specs.Sendings.{IsSending}
 use Rattle.sending.specs.Given.{texts}
 use Rattle.sending.specs.Storage.{joint}
 use Rattle.sending.proofs.Givens.{texts_length, suited, total}

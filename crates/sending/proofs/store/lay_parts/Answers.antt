@@ -1,7 +1,7 @@
 use Rattle.std.proofs.Common.{◌≡◌, ℕ, ◌+◌, ◌<◌, ◌≤◌, List, [], ◌∷◌, ◌++◌, length, get_or, take, sym, refl, ap, ◌∙◌, subst, arith, length-set}
 use Rattle.std.proofs.lemmas.List.{take_more, take_more_set, take_all, flat_map_more, length-append}
 use Rattle.buffers.specs.Laid.{laid}
-use Rattle.buffers.proofs.Lays.{take_laid, length_laid}
+use Rattle.buffers.proofs.Lays.{take_laid}
 use Rattle.sending.specs.Given.{texts}
 use Rattle.sending.specs.Storage.{joint, ends, Plain}
 use Rattle.sending.proofs.Givens.{text_at, texts_length, nowhere, room_next, plain_next}

@@ -1,4 +1,4 @@
-use Rattle.std.proofs.Common.{◌≡◌, ℕ, ◌<◌, List, [], length, get_or, take}
+use Rattle.std.proofs.Common.{◌≡◌, length, take}
 use Rattle.sending.specs.Given.{texts}
 use Rattle.sending.specs.Storage.{joint, ends, Plain}
 use Rattle.sending.proofs.store.lay_parts.Given as goal

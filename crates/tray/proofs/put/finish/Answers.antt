@@ -1,10 +1,8 @@
-use Rattle.std.proofs.Common.{◌≡◌, true, false, [], ◌∷◌, length, set, sym, refl, ap, ◌∙◌, arith, length-set}
-use Rattle.std.proofs.lemmas.Bool.{lt-ltb, le-ltb, cond-true, cond-false}
+use Rattle.std.proofs.Common.{◌≡◌, true, length, sym, ◌∙◌, arith}
+use Rattle.std.proofs.lemmas.Bool.{cond-true}
 use Rattle.std.proofs.lemmas.Bool.Decides.{nat_tests}
-use Rattle.buffers.proofs.Lays.{set_laid}
-use Rattle.tray.specs.Trays.{fault_section}
 use Rattle.tray.specs.Model.{fault_list}
-use Rattle.tray.specs.Writing.{finish_unfit, section_end, section_put, finish_end, finish_put}
+use Rattle.tray.specs.Writing.{finish_unfit, finish_end, finish_put}
 use Rattle.tray.proofs.Writings.{listed, faults_length, finishes, finish_fits}
 use Rattle.tray.proofs.put.finish.Goals as goal
 

@@ -1,8 +1,8 @@
-use Rattle.std.proofs.Common.{◌≡◌, ◌+◌, ◌*◌, ◌≤◌, length, drop, Some, None, sym, refl, ap, ◌∙◌, arith, length-drop}
+use Rattle.std.proofs.Common.{◌≡◌, drop, Some, None, sym, ap, ◌∙◌, arith, length-drop}
 use Rattle.std.proofs.lemmas.List.{take_rest}
 use Rattle.refusal.specs.declared.Refusal.TheVariants.{Tray}
 use Rattle.buffers.proofs.Steps.{refuses, done}
-use Rattle.tray.specs.Reading.{fault_fault, faults_fault}
+use Rattle.tray.specs.Reading.{fault_fault}
 use Rattle.tray.proofs.Rows.{fault_room, fault_within, rest_stop, rest_more, rest_done}
 use Rattle.tray.proofs.read.faults_end.Goals as goal
 use Rattle.tray.proofs.read.faults_end.Goals.{In-Some, In_default}

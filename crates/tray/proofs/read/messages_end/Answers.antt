@@ -1,8 +1,8 @@
-use Rattle.std.proofs.Common.{◌≡◌, ◌+◌, ◌≤◌, length, get_or, drop, Some, None, sym, refl, ap, ◌∙◌, arith, length-drop}
+use Rattle.std.proofs.Common.{◌≡◌, ◌+◌, ◌≤◌, length, get_or, drop, Some, None, sym, ap, ◌∙◌, arith, length-drop}
 use Rattle.std.proofs.lemmas.List.{take_rest, get_or-drop}
 use Rattle.refusal.specs.declared.Refusal.TheVariants.{Tray}
 use Rattle.buffers.proofs.Steps.{refuses, done}
-use Rattle.tray.specs.Reading.{message_size, message_fault, messages_fault, messages_end}
+use Rattle.tray.specs.Reading.{message_size, message_fault}
 use Rattle.tray.proofs.Rows.{message_room, message_within, row_stop, row_more, row_end, row_done}
 use Rattle.tray.proofs.read.messages_end.Goals as goal
 use Rattle.tray.proofs.read.messages_end.Goals.{In-Some, In_default}

@@ -1,5 +1,5 @@
-use Rattle.std.proofs.Common.{◌≡◌, ℕ, ◌+◌, ◌≤◌, List, ◌++◌, length, get_or, drop, sym, refl, ap, ◌∙◌, arith, rules}
-use Rattle.tray.specs.Reading.{tray_fault, message_count, section_place, fault_count}
+use Rattle.std.proofs.Common.{ℕ, ◌+◌, ◌≤◌, List, length, get_or, refl, ap, arith, rules}
+use Rattle.tray.specs.Reading.{tray_fault}
 use Rattle.tray.proofs.Openings.{none_from}
 use Rattle.tray.proofs.Backs.{made_of}
 use Rattle.tray.proofs.Begins.{begun}

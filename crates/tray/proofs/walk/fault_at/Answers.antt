@@ -1,4 +1,4 @@
-use Rattle.std.proofs.Common.{◌≡◌, drop, sym, refl, ap, ◌∙◌}
+use Rattle.std.proofs.Common.{ap}
 use Rattle.std.proofs.lemmas.List.{take_rest}
 use Rattle.tray.specs.Reading.{fault, fault_of}
 use Rattle.tray.proofs.walk.fault_at.Goals as goal

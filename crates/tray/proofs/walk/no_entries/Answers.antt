@@ -1,5 +1,5 @@
 use Rattle.std.proofs.Common.{drop, refl}
-use Rattle.tray.specs.Reading.{messages_fault, faults_fault, messages_of, faults_of}
+use Rattle.tray.specs.Reading.{messages_fault, faults_fault}
 use Rattle.tray.proofs.Ahead.{none_left}
 use Rattle.tray.proofs.walk.no_entries.Goals as goal
 

@@ -1,5 +1,4 @@
-use Rattle.std.proofs.Common.{arith, rules}
-use Rattle.std.proofs.lemmas.Bool.Decides.{nat_tests}
+use Rattle.std.proofs.Common.{rules}
 use Rattle.walk.specs.Fields.{block_at}
 use Rattle.walk.proofs.parse.block_of.Goals as goal
 

@@ -1,8 +1,6 @@
-use Rattle.std.proofs.Common.{◌≡◌, get_or, sym, ap, ◌∙◌, arith, rules}
-use Rattle.std.proofs.lemmas.Bool.Decides.{nat_tests}
+use Rattle.std.proofs.Common.{get_or, sym, ap, ◌∙◌, arith, rules}
 use Rattle.std.proofs.lemmas.List.{get_or_past}
 use Rattle.walk.specs.declared.entry.Entry.TheVariants.{Block, Fault}
-use Rattle.walk.specs.Fields.{cause_at}
 use Rattle.walk.specs.Entries.{read, fault}
 use Rattle.walk.proofs.Scans.{fits, room, scan_end, found_entry, item_block, past_block, item_fault}
 use Rattle.walk.proofs.parse.entry_at.Goals as goal

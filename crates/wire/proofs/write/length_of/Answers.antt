@@ -1,4 +1,4 @@
-use Rattle.std.proofs.Common.{◌≡◌, length, ap, arith}
+use Rattle.std.proofs.Common.{length, ap, arith}
 use Rattle.sending.specs.Model.{means}
 use Rattle.wire.specs.Wire.{check_bytes}
 use Rattle.wire.proofs.Wires.{length_block}

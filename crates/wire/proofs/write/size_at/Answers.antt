@@ -1,4 +1,4 @@
-use Rattle.std.proofs.Common.{◌≡◌, length, sym, ap, ◌∙◌, arith}
+use Rattle.std.proofs.Common.{length, sym, ap, ◌∙◌, arith}
 use Rattle.sending.specs.Model.{sent, means}
 use Rattle.wire.specs.Wire.{block_bytes}
 use Rattle.sending.proofs.Kept.{rule, long, some}

@@ -1,10 +1,10 @@
-use Rattle.std.proofs.Common.{◌≡◌, ◌+◌, ◌<◌, ◌≤◌, length, Ok, Err, sym, ap, ◌∙◌, arith}
+use Rattle.std.proofs.Common.{◌≡◌, ◌+◌, ◌<◌, ◌≤◌, length, Ok, Err, ap, ◌∙◌, arith}
 use Rattle.std.proofs.lemmas.Result.{err_from_is_err_and}
 use Rattle.buffers.specs.Laid.{laid}
 use Rattle.sending.specs.Model.{sent, means}
 use Rattle.wire.specs.Wire.{block_bytes}
 use Rattle.wire.specs.Writing.{size}
-use Rattle.sending.proofs.Kept.{rule, long}
+use Rattle.sending.proofs.Kept.{rule}
 use Rattle.sending.proofs.Rules.{numbers, part_short}
 use Rattle.wire.proofs.Writings.{wanted_ok, wanted_err, size_is, write_short, write_above, write_fits}
 use Rattle.wire.proofs.write.write_block.Goals as goal

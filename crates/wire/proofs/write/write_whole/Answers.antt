@@ -1,7 +1,7 @@
-use Rattle.std.proofs.Common.{◌≡◌, ℕ, ◌+◌, ◌-◌, ◌≤◌, List, ◌++◌, length, sym, ap, ◌∙◌, arith, rules}
+use Rattle.std.proofs.Common.{◌≡◌, ◌-◌, ◌≤◌, ◌++◌, length, ap, ◌∙◌, arith, rules}
 use borrow.Rule.Slice.PartMut.{mid_of}
 use Rattle.buffers.specs.Laid.{laid}
-use Rattle.buffers.proofs.Lays.{laid_more, mid_laid, length_laid}
+use Rattle.buffers.proofs.Lays.{laid_more, mid_laid}
 use Rattle.crc.specs.Crc.{crc}
 use Rattle.wire.specs.Wire.{covered, block_bytes, word_bytes}
 use Rattle.sending.specs.Model.{means}

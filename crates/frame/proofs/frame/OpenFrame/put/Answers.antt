@@ -1,14 +1,13 @@
-use Rattle.std.proofs.Common.{◌≡◌, ℕ, ◌+◌, ◌<◌, ◌≤◌, List, [], ◌∷◌, ◌++◌, map, length, get_or, take, Ok, Err, sym, refl, ap, ◌∙◌, subst, arith, Bor, rules}
+use Rattle.std.proofs.Common.{◌≡◌, ℕ, ◌<◌, ◌≤◌, List, [], ◌++◌, length, get_or, take, Ok, Err, sym, ap, ◌∙◌, subst, arith, Bor, rules}
 use Rattle.std.proofs.lemmas.List.{length-map, get_or-map}
 use Rattle.std.proofs.lemmas.Result.{err_from_is_err_and}
-use Rattle.sending.specs.Model.{sent}
 use Rattle.sending.proofs.Rules.{kept}
 use Rattle.frame.specs.Frames.{Filled, Holds}
-use Rattle.frame.specs.Groups.{Want, put_answer, put_blocks}
+use Rattle.frame.specs.Groups.{put_answer, put_blocks}
 use Rattle.frame.specs.Model.{want, wants, opened}
 use Rattle.frame.specs.declared.wanted.Wanted.{Wanted}
 use Rattle.frame.proofs.Tries.{tried_there}
-use Rattle.frame.proofs.Puts.{Going, filled_same, holds_same, of_a_sending, going_none, going_more, going_back, going_filled, refused_answer, refused_frame, refused_blocks, whole_answer, whole_frame, whole_holds}
+use Rattle.frame.proofs.Puts.{filled_same, holds_same, of_a_sending, going_none, going_more, going_back, going_filled, refused_answer, refused_frame, refused_blocks, whole_answer, whole_frame, whole_holds}
 use Rattle.frame.proofs.Reasons.{whole_or_not}
 use Rattle.frame.proofs.frame.OpenFrame.put.Goals as goal
 

@@ -1,6 +1,5 @@
-use Rattle.std.proofs.Common.{◌≡◌, ℕ, ◌<◌, ◌≤◌, List, ◌++◌, map, length, get_or, drop, set, sym, refl, ap, ◌∙◌, subst, arith, Bor}
+use Rattle.std.proofs.Common.{◌≡◌, ℕ, ◌<◌, ◌≤◌, List, ◌++◌, length, get_or, drop, set, sym, ap, ◌∙◌, arith, Bor}
 use Rattle.std.proofs.lemmas.List.{length-map, get_or-map}
-use Rattle.frame.specs.Groups.{Want}
 use Rattle.frame.specs.Marking.{groups_refusals}
 use Rattle.frame.specs.Model.{wants, groups_want, opened, filled}
 use Rattle.frame.specs.declared.wanted.Wanted.{Wanted}

@@ -1,4 +1,4 @@
-use Rattle.std.proofs.Common.{◌≡◌, [], sym, ap, ◌∙◌}
+use Rattle.std.proofs.Common.{[], sym, ap, ◌∙◌}
 use Rattle.gather.specs.declared.slot.State.{State}
 use Rattle.gather.specs.Model.{slot_in}
 use Rattle.gather.specs.Serving.{parts_held}

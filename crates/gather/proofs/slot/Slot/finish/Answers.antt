@@ -1,4 +1,4 @@
-use Rattle.std.proofs.Common.{◌≡◌, true, false, [], sym, refl, ◌∙◌, subst}
+use Rattle.std.proofs.Common.{true, false, [], sym, refl, ◌∙◌}
 use Rattle.gather.proofs.Joins.{full_any}
 use Rattle.gather.proofs.Ends.{ends, ends_out, empties}
 use Rattle.gather.proofs.slot.Slot.finish.Goals as goal

@@ -1,4 +1,4 @@
-use Rattle.std.proofs.Common.{◌≡◌, sym, ◌∙◌}
+use Rattle.std.proofs.Common.{sym, ◌∙◌}
 use Rattle.sending.specs.Model.{means}
 use Rattle.gather.proofs.Fits.{fits_parts}
 use Rattle.gather.proofs.slot.Slot.serve.Goals as goal

@@ -1,9 +1,9 @@
-use Rattle.std.proofs.Common.{◌≡◌, ℕ, ◌<◌, ◌≤◌, true, false, List, length, sym, refl, ap, ◌∙◌, arith, rules}
+use Rattle.std.proofs.Common.{◌≡◌, ℕ, ◌<◌, ◌≤◌, false, length, refl, ap, ◌∙◌, arith, rules}
 use Rattle.sending.specs.Model.{means}
 use Rattle.gather.specs.Gathering.{Answer}
 use Rattle.gather.specs.Arriving.{watched}
 use Rattle.gather.specs.Model.{model, watching, gathered}
-use Rattle.gather.specs.Serving.{reply, written}
+use Rattle.gather.specs.Serving.{written}
 use Rattle.gather.proofs.Slots.{length_numbers, watched_not, same_numbers, found_slot, is_watched, changed}
 use Rattle.gather.proofs.Serves.{means_reply, fits_out, slot_answer, slot_out, slot_next, absent_answer, absent_reply, absent_next}
 use Rattle.gather.proofs.table.Table.arrive.Goals as goal

@@ -1,4 +1,4 @@
-use Rattle.std.proofs.Common.{◌≡◌, ℕ, ◌<◌, ◌≤◌, length, sym, ap, ◌∙◌, arith}
+use Rattle.std.proofs.Common.{◌<◌, ◌≤◌, length, ◌∙◌, arith}
 use Rattle.gather.specs.Model.{watching}
 use Rattle.gather.proofs.Slots.{same_numbers}
 use Rattle.gather.proofs.Lists.{cleared_more, cleared_all}

@@ -1,4 +1,4 @@
-use Rattle.std.proofs.Common.{◌≡◌, ℕ, ◌<◌, ◌≤◌, false, length, Some, sym, refl, ap, ◌∙◌, arith}
+use Rattle.std.proofs.Common.{◌≡◌, ℕ, ◌<◌, ◌≤◌, false, length, Some, ap, ◌∙◌, arith}
 use Rattle.gather.specs.Arriving.{watched}
 use Rattle.gather.specs.Model.{watching, gathered}
 use Rattle.gather.proofs.Slots.{length_numbers, watched_not, found_slot, is_watched}

@@ -1,5 +1,4 @@
-use Rattle.std.proofs.Common.{◌≡◌, ℕ, List, Ok, Option, sym, refl, ap, ◌∙◌, rules}
-use Rattle.gather.specs.Serving.{opened}
+use Rattle.std.proofs.Common.{sym, rules}
 use Rattle.gather.proofs.Lists.{fault_few, fault_watchable}
 use Rattle.gather.proofs.table.Table.new.Goals as goal
 

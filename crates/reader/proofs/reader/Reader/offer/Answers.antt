@@ -1,7 +1,7 @@
-use Rattle.std.proofs.Common.{◌≡◌, ℕ, ◌≤◌, List, length, IfSome, Some, None, Ok, Err, Option, sym, refl, ap, ◌∙◌, subst, arith}
+use Rattle.std.proofs.Common.{◌≡◌, ℕ, ◌≤◌, List, length, IfSome, Some, None, Err, Option, sym, refl, ap, ◌∙◌, subst, arith}
 use Rattle.std.proofs.lemmas.Result.{err_from_is_err_and}
 use Rattle.refusal.specs.declared.Refusal.{Refusal}
-use Rattle.line.specs.Lines.{line_fault, size_of, read_answer, read_buffer, put}
+use Rattle.line.specs.Lines.{line_fault, size_of}
 use Rattle.gather.specs.Model.{watching, gathered}
 use Rattle.reader.specs.Settings.{or_due, offer_due}
 use Rattle.reader.specs.Answers.{call_due}
@@ -9,7 +9,7 @@ use Rattle.reader.specs.Calls.{state}
 use Rattle.reader.specs.Answers.{seen, Taken}
 use Rattle.reader.specs.Following.{followed}
 use Rattle.reader.proofs.Coming.{free}
-use Rattle.reader.proofs.Offering.{read_refused, read_passed, call_refused, call_passed, seen_found, size_within, Came, refuses_it, takes_it}
+use Rattle.reader.proofs.Offering.{read_refused, read_passed, call_refused, call_passed, seen_found, size_within, refuses_it, takes_it}
 use Rattle.reader.proofs.Wired.{lines_carry}
 use Rattle.reader.proofs.reader.Reader.offer.Goals as goal
 

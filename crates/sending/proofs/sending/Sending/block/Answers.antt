@@ -1,4 +1,4 @@
-use Rattle.std.proofs.Common.{◌≡◌, ℕ, ◌-◌, List, length, Some, None, Ok, Err, Option, sym, ap, ◌∙◌, arith}
+use Rattle.std.proofs.Common.{◌≡◌, ◌-◌, length, Ok, ap, ◌∙◌, arith}
 use Rattle.sending.specs.Model.{sent}
 use Rattle.sending.specs.Wanted.{wanted_part}
 use Rattle.sending.proofs.Kept.{some, long}

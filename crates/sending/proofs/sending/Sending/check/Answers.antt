@@ -1,4 +1,4 @@
-use Rattle.std.proofs.Common.{◌≡◌, ◌+◌, ◌<◌, length, Some, sym, ap, ◌∙◌, inl, inr, arith}
+use Rattle.std.proofs.Common.{Some, ap, ◌∙◌, inl, inr, arith}
 use Rattle.crc.specs.Crc.{crc}
 use Rattle.sending.specs.Model.{sent}
 use Rattle.sending.proofs.Kept.{some, long}

@@ -1,8 +1,7 @@
-use Rattle.std.proofs.Common.{◌≡◌, ℕ, ◌≤◌, Bool, true, false, cond, length, Ok, Err, sym, refl, ap, ◌∙◌, subst, arith}
-use Rattle.refusal.specs.declared.Refusal.TheVariants.{NotOfASending}
+use Rattle.std.proofs.Common.{◌≤◌, length, Ok, sym, ap, ◌∙◌, subst, arith}
 use Rattle.std.proofs.lemmas.Bool.{cond-true, cond-false}
 use Rattle.sending.specs.Given.{unsuited}
-use Rattle.sending.specs.Cuts.{room_bytes, capacity, cut_parts, IsCut}
+use Rattle.sending.specs.Cuts.{room_bytes, capacity, IsCut}
 use Rattle.sending.proofs.Pieces.{is_cut, cut_long, cut_rest}
 use Rattle.sending.proofs.sending.Sending.cut.Goals as goal
 

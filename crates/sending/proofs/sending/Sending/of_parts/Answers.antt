@@ -1,4 +1,4 @@
-use Rattle.std.proofs.Common.{◌≡◌, Bool, true, false, length, Ok, Err, sym, refl, ap, ◌∙◌}
+use Rattle.std.proofs.Common.{◌≡◌, true, false, length, Ok, sym, ap, ◌∙◌}
 use Rattle.sending.specs.Sendings.{Sending}
 use Rattle.sending.specs.Given.{texts, unsuited}
 use Rattle.sending.proofs.Givens.{texts_length, given_unfit, given_fit}

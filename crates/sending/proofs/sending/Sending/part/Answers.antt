@@ -1,4 +1,4 @@
-use Rattle.std.proofs.Common.{◌≡◌, ◌-◌, ◌<◌, ◌≤◌, length, get_or, take, drop, Some, sym, ap, ◌∙◌, arith}
+use Rattle.std.proofs.Common.{◌-◌, get_or, take, drop, Some, ap, ◌∙◌, arith}
 use Rattle.sending.specs.Model.{sent}
 use Rattle.sending.proofs.Kept.{long, part_there}
 use Rattle.sending.proofs.Wants.{part_none, part_some}

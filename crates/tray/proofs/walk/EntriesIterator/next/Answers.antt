@@ -1,5 +1,5 @@
-use Rattle.std.proofs.Common.{◌≡◌, ℕ, ◌+◌, ◌-◌, ◌<◌, ◌≤◌, List, [], ◌∷◌, ◌++◌, length, get_or, drop, sym, refl, ap, ◌∙◌, arith, rules}
-use Rattle.tray.specs.Reading.{Item, message, fault, message_items, fault_items, messages_of, faults_of}
+use Rattle.std.proofs.Common.{◌≡◌, ◌+◌, ◌-◌, List, ◌∷◌, ◌++◌, drop, sym, refl, ap, ◌∙◌, arith, rules}
+use Rattle.tray.specs.Reading.{Item, message, message_items, fault_items, messages_of, faults_of}
 use Rattle.tray.specs.Model.{item}
 use Rattle.tray.proofs.Ahead.{there, next_message, next_fault, none_left, no_messages}
 use Rattle.tray.proofs.walk.EntriesIterator.next.Goals as goal

@@ -1,6 +1,5 @@
-use Rattle.std.proofs.Common.{◌+◌, drop, refl, ap, ◌∙◌, arith, length-drop, rules}
+use Rattle.std.proofs.Common.{◌+◌, refl, ap, arith, length-drop, rules}
 use Rattle.std.proofs.lemmas.List.{take_rest, drop-drop}
-use Rattle.walk.specs.Entries.{taken}
 use Rattle.walk.proofs.parse.WalkIterator.next.Goals as goal
 use Rattle.std.proofs.iter.Next.{firm}
 

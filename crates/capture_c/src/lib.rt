@@ -1,0 +1,21 @@
+// The call of crate capture as a static library for C. include/rueladle.h declares it, docs/CAPTURE.md describes it.
+#![tactic(auto)]
+
+ghost use Rattle.std.specs.Prelude.{◌≡◌, ℕ, ◌≤◌, List, length, Some, Ok};
+ghost use Rattle.line.specs.Depths.{depth_of};
+ghost use Rattle.line.specs.Lines.{put};
+ghost use Rattle.capture.specs.Readings.{bytes_answer, buffer_after, Carry};
+ghost use Rattle.capture.specs.Numbers.{in_numbers};
+
+use capture::answer::LineReading;
+use capture::call;
+
+// Reads one line by 1X, else 2X, off samples of two bytes each, low byte first.
+#[unsafe(no_mangle)]
+pub extern "C" fn rueladle_read_line(depth: u32, samples: &[u8], payload: &mut [u8]) -> LineReading
+    ensures answer { result ≡ in_numbers (bytes_answer (depth_of depth) samples.now (length payload.old)) }
+    ensures payload { payload.new ≡ buffer_after (depth_of depth) samples.now payload.old }
+    ensures carried { (p : List ℕ) → Carry depth samples.now p → 60 ≤ length payload.old → (result ≡ in_numbers (Ok (Some (length p)))) × (payload.new ≡ put (Some p) payload.old) }
+{
+    call::rueladle_read_line(depth, samples, payload)
+}
