@@ -1,5 +1,6 @@
 // Examples of blocks, sendings and walks, each computed by the code and compared with bytes and lengths from outside.
 // Nothing here is used by other crates.
+#![tactic(auto)]
 
 #[cfg(test)]
 mod tests {

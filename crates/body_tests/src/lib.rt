@@ -143,7 +143,7 @@ mod tests {
         let until = content.valid_until.ok_or("no valid-until")?;
         let channel = message.channel.ok_or("no channel")?;
         assert_eq!(rt; content.id_type, 3);
-        assert!(rt; content.id == &[7]);
+        assert!(rt; content.id == [7].as_slice());
         assert_eq!(rt; (until.seconds, until.milliseconds), (1, 999));
         assert_eq!(rt;
             (channel.bsid, channel.major, channel.minor),
@@ -229,7 +229,7 @@ mod tests {
             <PlainBytes as body::Format>::takes(3) && !<PlainBytes as body::Format>::takes(2)
         );
         let bytes = read_body::<PlainBytes>(&[1, 2, 3])?;
-        assert!(rt; bytes == &[1, 2, 3]);
+        assert!(rt; bytes == [1, 2, 3].as_slice());
         Ok(())
     }
 }

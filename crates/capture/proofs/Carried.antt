@@ -1,16 +1,14 @@
 -- Bytes that carry a payload are read as that payload.
-use Rattle.std.proofs.Common.{◌≡◌, ℕ, ◌≤◌, List, length, Some, None, Ok, sym, ap, ◌∙◌, inl, inr}
+use Rattle.std.proofs.Common.{◌≡◌, ℕ, ◌≤◌, List, length, Some, None, Ok, ap, ◌∙◌, inl, inr}
 use Rattle.std.proofs.lemmas.Bool.{cond-false, le-ltb}
-use Rattle.line.specs.declared.depth.Depth.{Depth}
 use Rattle.line.specs.Depths.{depth_of}
 use Rattle.line.specs.Lines.{line_fault, read_answer}
 use Rattle.system.specs.Either.{found_else}
-use Rattle.onex.specs.OneX.{one_found}
 use Rattle.onex.specs.OneLaws.{one_reading}
 use Rattle.twox.specs.TwoX.{two_found}
 use Rattle.twox.specs.TwoLaws.{two_reading}
 use Rattle.twox.specs.Apart.{none_in_two}
-use Rattle.capture.specs.Readings.{samples_of, one_two_found, bytes_fault, bytes_answer, bytes_found, Carry}
+use Rattle.capture.specs.Readings.{samples_of, one_two_found, bytes_answer, bytes_found, Carry}
 use Rattle.capture.proofs.Faults.{whole_fault}
 
 carried_legal : (bits : ℕ) (bytes p : List ℕ) (c : Carry bits bytes p) → line_fault c.depth (samples_of bytes) ≡ None

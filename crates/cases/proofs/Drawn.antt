@@ -1,5 +1,5 @@
 -- What is measured on a drawing in 1X at 8 samples to a symbol, and what symbols are read as by it.
-use Rattle.std.proofs.Common.{◌≡◌, ℕ, ◌+◌, ◌*◌, true, List, [], ◌∷◌, length, get_or, Some, sym, refl, ap, ◌∙◌, subst, arith}
+use Rattle.std.proofs.Common.{◌≡◌, ℕ, ◌+◌, ◌*◌, true, List, [], ◌∷◌, length, get_or, Some, refl, ap, ◌∙◌, subst, arith}
 use Rattle.std.proofs.lemmas.List.FromFn.{length-map-range_with_len}
 use Rattle.std.proofs.lemmas.Bool.{cond-true, lt-ltb}
 use Rattle.line.specs.declared.depth.Depth.TheVariants.{Eight}
@@ -10,7 +10,7 @@ use Rattle.line.specs.Scales.{draws_bits}
 use Rattle.line.specs.Symbols.{Near, weight, level_at, drawn_by, symbol_of, symbol_at, value_of}
 use Rattle.line.proofs.Levels.{Follows, line_follows, drawn_legal, drawn_near}
 use Rattle.onex.specs.OneX.{measured, one_run}
-use Rattle.onex.specs.OneLaws.{Measured, one_measures, pair_below}
+use Rattle.onex.specs.OneLaws.{one_measures, pair_below}
 use Rattle.cases.specs.Words.{measured_cuts, value_by}
 
 good_1920 : good_count 1920 ≡ true

@@ -1,10 +1,10 @@
 -- Two parts of a sending, read 255 and 256 frames apart.
-use Rattle.std.proofs.Common.{◌≡◌, ℕ, ◌+◌, ◌≤◌, Bool, true, false, cond, ◌&&◌, eqb, ltb, List, [], ◌∷◌, ◌++◌, length, get_or, is_some, Some, None, Option, sym, refl, ap, ◌∙◌, arith}
+use Rattle.std.proofs.Common.{◌≡◌, ℕ, Bool, true, false, cond, ◌&&◌, eqb, ltb, List, [], ◌∷◌, ◌++◌, length, is_some, Some, None, sym, refl, ap, ◌∙◌, arith}
 use Rattle.std.proofs.lemmas.Bool.{cond-true, cond-false, and_from, eq-eqb, le-leb}
 use Rattle.crc.specs.Crc.{crc}
-use Rattle.sending.specs.Sendings.{Block, Sending, IsSending, block, message}
-use Rattle.gather.specs.Gathering.{Part, Slot, nothing, agreeing, recent, kept, full, whole, body_of, settled, right, Answer, silent, handed, answer}
-use Rattle.gather.specs.Arriving.{Table, watched, arrive, answer_to}
+use Rattle.sending.specs.Sendings.{Sending, IsSending, block, message}
+use Rattle.gather.specs.Gathering.{Slot, nothing, agreeing, recent, kept, full, whole, body_of, settled, right, silent, handed, answer}
+use Rattle.gather.specs.Arriving.{Table, watched, arrive}
 use Rattle.gather.specs.Watching.{fits_slot}
 use Rattle.gather.specs.Serving.{empty, reply, next_table}
 use Rattle.cases.specs.Words.{after_first}

@@ -1,9 +1,8 @@
 -- The lengths of the parts that messages are cut to in 1X.
-use Rattle.std.proofs.Common.{◌≡◌, ℕ, ◌+◌, ◌-◌, ◌≤◌, min, false, ltb, List, [], ◌∷◌, map, length, take, drop, Ok, sym, refl, ap, ◌∙◌, subst, arith}
+use Rattle.std.proofs.Common.{◌≡◌, ℕ, ◌+◌, ◌-◌, ◌≤◌, min, false, ltb, List, [], ◌∷◌, map, length, take, drop, ap, ◌∙◌, arith}
 use Rattle.std.proofs.lemmas.List.{length-take, length-take-le, length-drop}
 use Rattle.std.proofs.lemmas.Bool.{cond-false, le-ltb}
-use Rattle.sending.specs.Given.{unsuited}
-use Rattle.sending.specs.Cuts.{capacity, cutting, cut_parts, part_count, pieces}
+use Rattle.sending.specs.Cuts.{cutting, part_count, pieces}
 use Rattle.cases.specs.Words.{part_lengths, CutsTo}
 
 -- a message that is not too long is cut to its pieces

@@ -5,8 +5,8 @@
 
 mod calls;
 mod follow;
-mod line;
 mod offer;
+mod payload;
 mod progress;
 mod reader;
 mod take;

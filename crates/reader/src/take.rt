@@ -7,7 +7,7 @@ ghost use Rattle.reader.specs.Offers.{found_length};
 ghost use Rattle.reader.specs.Stands.{LineStands};
 ghost use Rattle.reader.specs.Answers.{seen, Taken};
 
-use super::line::follow_line;
+use super::payload::follow_line;
 use super::progress::Progress;
 use super::reader::Answer;
 use gather::Table;

@@ -1,4 +1,5 @@
 // Marks a reference tape, sends it through a bad cable box and reads it back, and prints what it did.
+#![tactic(auto)]
 
 mod blocks;
 mod bodies;

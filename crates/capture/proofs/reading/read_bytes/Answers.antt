@@ -1,4 +1,4 @@
-use Rattle.std.proofs.Common.{◌≡◌, ℕ, ◌-◌, ◌/◌, length, take, Some, sym, refl, ap, ◌∙◌, inl, inr, arith}
+use Rattle.std.proofs.Common.{◌≡◌, ◌-◌, ◌/◌, length, take, Some, sym, refl, ap, ◌∙◌, inl, inr, arith}
 use Rattle.refusal.specs.declared.Refusal.TheVariants.{SampleCount}
 use Rattle.line.specs.Lines.{line_fault, read_answer, read_buffer}
 use Rattle.capture.specs.Readings.{samples_of, one_two_found, bytes_fault}

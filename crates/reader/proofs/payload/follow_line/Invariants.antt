@@ -7,7 +7,7 @@ use Rattle.reader.specs.Entered.{Good}
 use Rattle.reader.specs.Following.{Progress, follow_all, at_start}
 use Rattle.reader.specs.Stands.{Stands}
 use Rattle.reader.proofs.Lines.{Left}
-use Rattle.reader.proofs.line.follow_line.Given as goal
+use Rattle.reader.proofs.payload.follow_line.Given as goal
 
 abbrev pub invariant-loop-entry : goal.invariant-loop-entry
 invariant-loop-entry l =

@@ -8,7 +8,7 @@ use Rattle.reader.specs.Following.{follow, follow_all, at_start}
 use Rattle.reader.specs.Stands.{Stands}
 use Rattle.reader.proofs.Entered.{entries_good}
 use Rattle.reader.proofs.Lines.{begins, Left, room_for, left_after, ended}
-use Rattle.reader.proofs.line.follow_line.Goals as goal
+use Rattle.reader.proofs.payload.follow_line.Goals as goal
 
 pub loop-entry-init : goal.loop-entry-init
 loop-entry-init c =
