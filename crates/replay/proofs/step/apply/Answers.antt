@@ -41,7 +41,7 @@ returns-in_ok-tray-in-Offer g c =
     let line = c.in-Offer.line.now in
     let call = sym c.in-Offer.is in
     let e = c.offer-result.ensures in
-    let copy = c.deref_mut.ensures.value ∙ c.in_ok-tray-in-Offer.ensures.items-if-clones-equal (λ x y k. k) in
+    let copy = c.deref_mut.ensures.value ∙ c.in_ok-tray-in-Offer.ensures.items_if_clones_equal (λ x y k. k) in
     let back = take_at c.offer-result.new.tray _ c.in_ok-tray-in-Offer.tray.len (c.offer-result.auto.tray ∙ c.deref_mut.ensures.len) in
     let entry : ◌≡◌ {A = Entry} _ _ = λ i. record {
       call = (ap (offer t line) copy ∙ ap call_of call) i;

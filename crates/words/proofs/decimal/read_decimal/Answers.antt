@@ -14,16 +14,16 @@ step most v i xs r e h =
 within : (most v c w : ℕ) → Some w ≡ with_digit most v c → w ≤ most
 within most v c w e = grind (arith, nat_tests)
 
-pub returns-in-err-value : goal.returns-in-err-value
-returns-in-err-value c =
-    let all = step c.args.most c.loop-c.value c.loop-c.c-index c.args.word.now None c.in-err-value.ensures (omega arith) in
-    let none = c.from-residual.ensures in
+pub returns-in_err-value : goal.returns-in_err-value
+returns-in_err-value c =
+    let all = step c.args.most c.loop-c.value c.loop-c.c-index c.args.word.now None c.in_err-value.ensures (omega arith) in
+    let none = c.from_residual.ensures in
     record { answer = none ∙ all ∙ c.loop-c.invariant.0; most = subst (λ r. IfSome r (λ value. value ≤ c.args.most)) (sym none) tt }
 
 pub loop-c-preserved : goal.loop-c-preserved
 loop-c-preserved c =
-    let value = c.in-ok-value.value in
-    let is = c.in-ok-value.ensures in
+    let value = c.in_ok-value.value in
+    let is = c.in_ok-value.ensures in
     let all = step c.args.most c.loop-c.value c.loop-c.c-index c.args.word.now (Some value) is (omega arith) in
     (all ∙ c.loop-c.invariant.0, within c.args.most c.loop-c.value (get_or c.args.word.now c.loop-c.c-index 0) value is)
 
