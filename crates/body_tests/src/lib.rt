@@ -1,3 +1,5 @@
+#![tactic(auto)]
+
 // The worked bytes of the format, and each wrong place once, reading and writing.
 #[cfg(test)]
 mod tests {

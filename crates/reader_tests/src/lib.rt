@@ -1,3 +1,5 @@
+#![tactic(auto)]
+
 // Tests of the reader on worked calls, apart from the crate that they test, so that it is proved once.
 #[cfg(test)]
 mod gathers;

@@ -39,7 +39,7 @@ fn holds_the_message(rt: &impl Abort, used: &[u8]) -> Result<(), Fail> {
         ) => {
             assert_eq!(rt; place, 1);
             assert_eq!(rt; [number, version], [NUMBER, VERSION]);
-            assert!(rt; bytes == MESSAGE);
+            assert!(rt; bytes == MESSAGE.as_slice());
         }
         _ => return Err(Fail::new("no message")),
     }

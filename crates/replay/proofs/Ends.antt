@@ -9,7 +9,7 @@ use Rattle.replay.specs.declared.call.Call.{Call}
 use Rattle.replay.specs.declared.call.Call.TheVariants.{Offer, Restart}
 use Rattle.replay.specs.declared.call.Outcome.{Outcome}
 use Rattle.replay.specs.declared.call.Outcome.TheVariants.{Offered, Restarted}
-use Rattle.replay.specs.Replaying.{plain, call_of, comes_to, goes_to, run, Alike}
+use Rattle.replay.specs.Replaying.{plain, call_of, goes_to, run, Alike}
 
 -- a new reader is of its system, watches its list and has gathered nothing
 pub record Made {L : Type 0} (system : L) (watch : List ℕ) (fault : Option ℕ) (reader : Reader L) : Type 0 where

@@ -1,5 +1,5 @@
 -- A new reader that watches the numbers 1, 2 and 3.
-use Rattle.std.proofs.Common.{◌≡◌, ℕ, List, [], ◌∷◌, None, Ok, Err, Result, sym, ap, subst, arith}
+use Rattle.std.proofs.Common.{◌≡◌, ℕ, List, [], ◌∷◌, Ok, Err, Result, sym, ap, subst, arith}
 use Rattle.refusal.specs.declared.Refusal.{Refusal}
 use Rattle.gather.specs.Model.{watching}
 use Rattle.gather.specs.Watching.{watch_fault}

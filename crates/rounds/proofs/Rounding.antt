@@ -4,7 +4,7 @@ use Rattle.refusal.specs.declared.Refusal.{Refusal}
 use Rattle.runs.specs.Pasts.{Setting, Figures}
 use Rattle.runs.specs.Reaching.{State}
 use Rattle.reader.specs.Calls.{offered_answer, offered_tray, offered_state}
-use Rattle.rounds.specs.Rounds.{Round, once_more, after}
+use Rattle.rounds.specs.Rounds.{Round, after}
 
 -- state, tray and last answer are those after so many rounds
 pub record Stands (s : Setting) (first : State) (line old : List ℕ) (n : ℕ) (here : State) (tray : List ℕ) (last : Result Figures Refusal) : Type 0 where

@@ -1,5 +1,5 @@
 -- What an offer comes to, in the numbers that a program in C is told.
-use Rattle.std.specs.Prelude.{ℕ, Ok, Err, Result}
+use Rattle.std.specs.Prelude.{Ok, Err, Result}
 use Rattle.refusal.specs.declared.Refusal.{Refusal}
 use Rattle.refusal.specs.Refusals.{refusal_number, refusal_place}
 use Rattle.runs.specs.Pasts.{Figures}

@@ -1,4 +1,6 @@
 // Marks a reference tape, sends it through a bad cable box, reads it back, and prints what it did and which spots it found.
+#![tactic(auto)]
+
 mod cable;
 mod handed;
 mod lines;

@@ -1,5 +1,7 @@
 // Answers test cases, one a line on standard input, one answer a line on standard output (docs/VECTORS.md), through the
 // proved crates. An independent implementation answers the same cases.
+#![tactic(auto)]
+
 mod blocks;
 mod bodies;
 mod frames;

@@ -1,5 +1,7 @@
 // The words of test cases: numbers, hexadecimal bytes, samples and lists, parsed from bytes and printed (docs/VECTORS.md).
 // It knows nothing of what a case asks.
+#![tactic(auto)]
+
 mod decimal;
 mod hex;
 mod lists;

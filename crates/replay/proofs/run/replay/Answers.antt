@@ -1,7 +1,7 @@
-use Rattle.std.proofs.Common.{◌≡◌, [], map, Ok, vec_items, Option, sym, refl, ap, ◌∙◌, subst}
+use Rattle.std.proofs.Common.{◌≡◌, [], map, Ok, vec_items, Option, sym, ◌∙◌, subst}
 use Rattle.gather.specs.Watching.{watch_fault}
 use Rattle.runs.specs.Pasts.{Setting}
-use Rattle.runs.specs.Reaching.{State, new, Reached}
+use Rattle.runs.specs.Reaching.{new, Reached}
 use Rattle.reader.specs.Calls.{setting, state}
 use Rattle.reader.specs.Settings.{setting_of}
 use Rattle.reader.proofs.Keeping.{whole}

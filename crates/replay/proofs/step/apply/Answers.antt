@@ -1,7 +1,7 @@
-use Rattle.std.proofs.Common.{◌≡◌, ℕ, List, [], ◌∷◌, ◌++◌, length, take, Ok, Err, Result, sym, refl, ap, ◌∙◌, subst, arith}
+use Rattle.std.proofs.Common.{◌≡◌, ℕ, List, [], ◌∷◌, ◌++◌, Ok, Err, Result, sym, refl, ap, ◌∙◌, subst}
 use Rattle.std.proofs.lemmas.List.{take_at}
 use Rattle.refusal.specs.declared.Refusal.{Refusal}
-use Rattle.runs.specs.Pasts.{Past, Entry, offer, restarts}
+use Rattle.runs.specs.Pasts.{Entry, offer, restarts}
 use Rattle.runs.specs.Reaching.{Reached}
 use Rattle.reader.specs.Answers.{told}
 use Rattle.reader.specs.Answers as answers
@@ -9,8 +9,7 @@ use Rattle.reader.specs.Calls.{setting, state, offered_answer, offered_tray, off
 use Rattle.reader.specs.Settings.{setting_of}
 use Rattle.reader.specs.declared.reader.Answer.{Answer}
 use Rattle.replay.specs.declared.call.Call.{Call}
-use Rattle.replay.specs.declared.call.Call.TheVariants.{Offer, Restart}
-use Rattle.replay.specs.Replaying.{Told, offered, call_of, outcome_of, comes_to, goes_to}
+use Rattle.replay.specs.Replaying.{offered, call_of, outcome_of, comes_to, goes_to}
 use Rattle.replay.proofs.step.apply.Goals as goal
 
 -- an outcome as a past has it, by the code's answer

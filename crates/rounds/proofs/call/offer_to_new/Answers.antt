@@ -1,5 +1,4 @@
 use Rattle.std.proofs.Common.{◌≡◌, ap, ◌∙◌}
-use Rattle.line.specs.declared.depth.Depth.{Depth}
 use Rattle.system.specs.Either.{found_else}
 use Rattle.onex.specs.OneX.{one_found}
 use Rattle.twox.specs.TwoX.{two_found}
