@@ -1,5 +1,5 @@
 -- The 240 symbols of a line: their levels, the values they are read as, and the bytes those values write.
--- Only weight, level-at and symbol-at know how many samples a symbol has.
+-- Only weight, level_at and symbol_at know how many samples a symbol has.
 use Rattle.std.specs.Prelude.{◌≡◌, ℕ, zero, suc, ◌+◌, ◌-◌, ◌*◌, ◌/◌, ◌%◌, ◌^◌, ◌<◌, ◌≤◌, cond, List, map, length, take, drop, None, sum, count_by, nat_eq, nat_le, slice_index}
 use Rattle.std.specs.List.{range_with_len}
 use Rattle.line.specs.declared.depth.Depth.{Depth}
