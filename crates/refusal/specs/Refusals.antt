@@ -1,5 +1,6 @@
 -- The number and the place of each refusal. Every contract that speaks of a refusal's number goes through these two.
-use Rattle.std.specs.Prelude.{ℕ}
+use Rattle.std.specs.Prelude.{ℕ, List, ◌++◌, codes}
+use Rattle.std.specs.Fmt.{decimal}
 use Rattle.refusal.specs.declared.Refusal.{Refusal}
 use Rattle.refusal.specs.declared.Refusal.TheVariants.{SampleCount, SampleSize, FrameNumber, OutputLength, Levels, FrameEnd, TooLong, NotOfASending, Body, WatchList, Depth, Payload, Tray}
 
@@ -34,3 +35,7 @@ refusal_place (WatchList n) = n
 refusal_place Depth = 0
 refusal_place Payload = 0
 refusal_place (Tray n) = n
+
+-- a refusal as it is printed: its number and its place
+abbrev pub refusal_text : Refusal → List ℕ
+refusal_text r = decimal (refusal_number r) ++ (codes " at " ++ decimal (refusal_place r))

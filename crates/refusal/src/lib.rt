@@ -2,8 +2,11 @@
 // This crate knows nothing of lines, blocks or bodies; docs/REFUSALS.md says when each refusal is answered.
 #![tactic(auto)]
 
-ghost use Rattle.std.specs.Prelude.{◌≡◌};
-ghost use Rattle.refusal.specs.Refusals.{refusal_number, refusal_place};
+ghost use Rattle.std.specs.Prelude.{Some, ◌≡◌};
+ghost use Rattle.refusal.specs.Refusals.{refusal_number, refusal_place, refusal_text};
+
+use std::error::Error;
+use std::fmt;
 
 // A refused input, by its condition. The place, where a condition has one, is what the variant holds.
 #[derive(Clone, Copy, PartialEq, Eq, Debug)]
@@ -35,6 +38,16 @@ pub enum Refusal {
     // the first wrong byte of a tray, or its length where a byte lacks
     Tray(usize),
 }
+
+impl fmt::Display for Refusal {
+    ghost output = { λ refusal. Some (refusal_text refusal) };
+
+    fn fmt<W: fmt::Write>(&self, f: &mut fmt::Formatter<W>) -> fmt::Result {
+        write!(f, "{} at {}", self.number(), self.place())
+    }
+}
+
+impl Error for Refusal {}
 
 impl Refusal {
     // The number by which the refusal is known outside.
