@@ -12,3 +12,4 @@ pub mod Accepts
 pub mod Rounds
 pub mod Digits
 pub mod PlainFormatLemmas
+pub mod Texts

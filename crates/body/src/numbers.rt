@@ -7,7 +7,7 @@ pub const CONTENT_ID: u8 = 1;
 pub const PRESENTATION_TIME: u8 = 2;
 
 // The three kinds.
-#[derive(Clone, Copy)]
+#[derive(Clone, Copy, PartialEq, Eq, Debug)]
 pub enum KindName {
     ContentId,
     PresentationTime,
