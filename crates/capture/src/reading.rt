@@ -6,7 +6,6 @@ ghost use Rattle.line.specs.Scales.{found_by};
 ghost use Rattle.line.specs.Symbols.{level_at};
 ghost use Rattle.capture.specs.Readings.{samples_of, one_two_found, bytes_fault, bytes_answer, bytes_found};
 
-use crate::depth::stated_depth;
 use crate::samples::{MOST_SAMPLES, gather};
 use line::depth::Depth;
 use line::reading::{Cuts, read_by};
@@ -49,6 +48,6 @@ pub(crate) fn read(bits: u32, bytes: &[u8], payload: &mut [u8]) -> Result<Option
     ensures answer { result ≡ bytes_answer (depth_of bits) bytes.now (length payload.old) }
     ensures payload { payload.new ≡ read_buffer result (bytes_found (depth_of bits) bytes.now) payload.old }
 {
-    let depth = stated_depth(bits)?;
+    let depth = Depth::try_from(bits)?;
     read_bytes(depth, bytes, payload)
 }

@@ -12,17 +12,38 @@ pub enum Depth {
     Twelve,
 }
 
-impl Depth {
-    // The depth of so many bits.
-    pub fn from_bits(bits: u8) -> Result<Depth, Refusal>
-        ensures answer { result ≡ depth_of bits }
-    {
+// The depth of so many bits. All 32 bits of the number count: 264 is not taken for 8.
+impl TryFrom<u32> for Depth {
+    type Error = Refusal;
+
+    ghost try_from_gives = { λ bits r. r ≡ depth_of bits };
+
+    fn try_from(bits: u32) -> Result<Depth, Refusal> {
         match bits {
             8 => Ok(Depth::Eight),
             10 => Ok(Depth::Ten),
             12 => Ok(Depth::Twelve),
             _ => Err(Refusal::Depth),
         }
+    }
+}
+
+impl TryFrom<u8> for Depth {
+    type Error = Refusal;
+
+    ghost try_from_gives = { λ bits r. r ≡ depth_of bits };
+
+    fn try_from(bits: u8) -> Result<Depth, Refusal> {
+        Depth::try_from(u32::from(bits))
+    }
+}
+
+impl Depth {
+    // The depth of so many bits.
+    pub fn from_bits(bits: u8) -> Result<Depth, Refusal>
+        ensures answer { result ≡ depth_of bits }
+    {
+        Depth::try_from(bits)
     }
 
     pub fn bits(&self) -> u8

@@ -1,5 +1,5 @@
 // Making a pair of levels, and the system 1X of a pair.
-ghost use Rattle.std.specs.Prelude.{◌≡◌, ℕ, true, false, List, Ok, Err};
+ghost use Rattle.std.specs.Prelude.{◌≡◌, ℕ, ◌*◌, true, false, List, Ok, Err};
 ghost use Rattle.refusal.specs.declared.Refusal.TheVariants.{Levels as NotAllowed};
 ghost use Rattle.line.specs.Depths.{unit_of};
 ghost use Rattle.onex.specs.Pairs.{allowed};
@@ -23,6 +23,18 @@ impl Levels {
             Ok(Levels { depth, zero, one })
         } else {
             Err(Refusal::Levels)
+        }
+    }
+
+    // The levels that lines are usually drawn with: 4 units for 0, and 40 for 1.
+    pub fn usual(depth: Depth) -> Levels
+        ensures answer { (result.depth ≡ depth) × (result.zero ≡ 4 * unit_of depth) × (result.one ≡ 40 * unit_of depth) }
+    {
+        let q = depth.unit();
+        Levels {
+            depth,
+            zero: 4 * q,
+            one: 40 * q,
         }
     }
 
