@@ -1,5 +1,5 @@
 // Each refusal at its edge.
-use crate::systems::{one_else_two, payload};
+use crate::systems::payload;
 use line::depth::Depth;
 use onex::levels::Levels;
 use onex::one_x::OneX;
@@ -8,11 +8,12 @@ use std::process::Abort;
 use std::test::Fail;
 use system::joins::first_else;
 use system::system::LineSystem;
+use twox::one_two::one_else_two;
 use twox::two_x::TwoX;
 
 // What reading a black line of so many samples answers.
 fn black(count: usize) -> Result<Result<Option<usize>, Refusal>, Fail> {
-    let system = one_else_two(Depth::Eight)?;
+    let system = one_else_two(Depth::Eight);
     let line = [0u16; 4080];
     let mut found = [0u8; 60];
     let n = if count < 4080 { count } else { 4080 };
@@ -31,7 +32,7 @@ fn sample_counts(rt: HostRuntime) -> Result<(), Fail> {
 
 // The largest sample of a depth passes, and one more is refused; sizes are tested before the room.
 fn largest_sample(rt: &impl Abort, depth: Depth, most: u16) -> Result<(), Fail> {
-    let system = one_else_two(depth)?;
+    let system = one_else_two(depth);
     let mut line = [most; 240];
     let mut found = [0u8; 60];
     let mut short = [0u8; 59];
@@ -59,7 +60,7 @@ fn sample_sizes_and_room(rt: HostRuntime) -> Result<(), Fail> {
 
 #[test]
 fn payloads_that_are_not_drawn(rt: HostRuntime) -> Result<(), Fail> {
-    let system = one_else_two(Depth::Ten)?;
+    let system = one_else_two(Depth::Ten);
     let mut bytes = payload();
     let mut line = [7u16; 240];
     assert_eq!(rt;

@@ -1,9 +1,10 @@
 // The sums at which a symbol changes its value: 8 bits, 8 samples to a symbol.
-use crate::systems::{one_else_two, payload};
+use crate::systems::payload;
 use line::depth::Depth;
 use std::process::Abort;
 use std::test::Fail;
 use system::system::LineSystem;
+use twox::one_two::one_else_two;
 
 // Gives the last symbol of a line this sum.
 fn set_last(line: &mut [u16; 1920], sum: u16) {
@@ -15,7 +16,7 @@ fn set_last(line: &mut [u16; 1920], sum: u16) {
 
 // The last byte read, where symbol 239 of a drawn line has this sum.
 fn last_byte(rt: &impl Abort, length: usize, sum: u16) -> Result<u8, Fail> {
-    let system = one_else_two(Depth::Eight)?;
+    let system = one_else_two(Depth::Eight);
     let bytes = payload();
     let n = if length < 60 { length } else { 60 };
     let mut line = [0u16; 1920];

@@ -1,20 +1,4 @@
-// The systems that the tests read by.
-use line::depth::Depth;
-use onex::levels::Levels;
-use onex::one_x::OneX;
-use refusal::Refusal;
-use system::first_else::FirstElse;
-use system::joins::first_else;
-use twox::one_two::OneTwo;
-use twox::two_x::TwoX;
-
-pub(crate) fn one_else_two(depth: Depth) -> Result<FirstElse<OneTwo>, Refusal> {
-    let q = depth.unit();
-    first_else(
-        OneX::new(Levels::new(depth, 4 * q, 40 * q)?),
-        TwoX::new(depth),
-    )
-}
+// The payload that the tests draw.
 
 // Some payload of 60 bytes that begins EB 52.
 pub(crate) fn payload() -> [u8; 60] {

@@ -1,9 +1,10 @@
 // Payloads drawn and read back.
-use crate::systems::{one_else_two, payload};
+use crate::systems::payload;
 use line::depth::Depth;
 use std::process::Abort;
 use std::test::Fail;
 use system::round_trip::round_trip;
+use twox::one_two::one_else_two;
 
 // Whether the buffer holds the first bytes of a payload, and every other byte is as it was.
 fn holds(back: &[u8; 60], bytes: &[u8; 60], size: usize) -> bool {
@@ -17,7 +18,7 @@ fn holds(back: &[u8; 60], bytes: &[u8; 60], size: usize) -> bool {
 
 // Draws and reads back a payload on a line of 240 n samples.
 fn one(rt: &impl Abort, depth: Depth, n: usize, length: usize) -> Result<(), Fail> {
-    let system = one_else_two(depth)?;
+    let system = one_else_two(depth);
     let bytes = payload();
     let mut line = [0u16; 3840];
     let count = if n < 16 { 240 * n } else { 3840 };
