@@ -1,11 +1,9 @@
 -- Given parts: which of them is too long, and what those keep of which none is.
-use Rattle.std.proofs.Common.{◌≡◌, ℕ, zero, suc, ◌+◌, ◌<◌, ◌≤◌, Bool, true, false, cond, ◌||◌, eqb, ltb, leb, List, [], ◌∷◌, length, get_or, take, drop, Some, None, Ok, Err, Option, sym, refl, ap, ◌∙◌, subst, ⊎_elim, arith, Bor}
-use Rattle.refusal.specs.declared.Refusal.TheVariants.{NotOfASending}
-use Rattle.std.proofs.lemmas.List.{drop_more, get_or-map, length-map, length-append, length-take-le, get_or-take}
-use Rattle.std.proofs.lemmas.Bool.{cond-true, cond-false, cond_both, lt-ltb, le-ltb, ltb-false, or_parts, eqb-false, eq-eqb, ne_eqb, le-leb, cases_lt}
-use Rattle.sending.specs.Sendings.{Sending}
+use Rattle.std.proofs.Common.{◌≡◌, ℕ, zero, suc, ◌+◌, ◌<◌, ◌≤◌, Bool, true, false, cond, ◌||◌, eqb, ltb, leb, List, [], ◌∷◌, ◌++◌, length, get_or, take, drop, Some, None, Option, refl, ap, ◌∙◌, subst, arith, Bor}
+use Rattle.std.proofs.lemmas.List.{drop_more, get_or-map, length-map, length-append}
+use Rattle.std.proofs.lemmas.Bool.{cond-true, cond-false, cond_both, lt-ltb, le-ltb, ltb-false, or_parts, eqb-false, eq-eqb, ne_eqb, le-leb}
 use Rattle.sending.specs.Storage.{joint, Plain}
-use Rattle.sending.specs.Given.{part_limit, first_long, texts, unsuited, unless_long, of_parts}
+use Rattle.sending.specs.Given.{part_limit, first_long, texts, unsuited}
 
 module _ (n i : ℕ) (ps : List (List ℕ)) (h : i < length ps) where
   pub long_here : part_limit n i < length (get_or ps i []) → first_long n i (drop i ps) ≡ Some (length (get_or ps i []))
@@ -88,22 +86,8 @@ room_next [] i h = absurd (omega arith)
 room_next (x ∷ xs) zero h = omega (arith, length-append x (joint xs))
 room_next (x ∷ xs) (suc i) h = omega (arith, length-append x (joint xs), length-append x (joint (take i xs)), room_next xs i (omega arith))
 
-pub plain_next : (ps : List (List ℕ)) (i : ℕ) → i < length ps → Plain (take i ps) → ((j : ℕ) → j < length (get_or ps i []) → get_or (get_or ps i []) j 0 < 256) → Plain (take (i + 1) ps)
-plain_next ps i h before here k j hk hj =
-    let n : length (take (i + 1) ps) ≡ i + 1 = length-take-le (i + 1) ps (omega arith) in
-    let m : length (take i ps) ≡ i = length-take-le i ps (omega arith) in
-    let e : get_or (take (i + 1) ps) k [] ≡ get_or ps k [] = get_or-take (i + 1) ps k [] (omega arith) in
-    let l : j < length (get_or ps k []) = omega (arith, ap length e) in
-    subst (λ (p : List ℕ). get_or p j 0 < 256) (sym e)
-    (⊎_elim
-    (λ (lt : k < i). let f : get_or (take i ps) k [] ≡ get_or ps k [] = get_or-take i ps k [] lt in
-    subst (λ (p : List ℕ). get_or p j 0 < 256) f (before k j (omega arith) (omega (arith, ap length f))))
-    (λ (ge : i ≤ k). let f : i ≡ k = omega arith in subst (λ (m : ℕ). get_or (get_or ps m []) j 0 < 256) f (here j (omega (arith, ap (λ m. length (get_or ps m [])) f))))
-    (cases_lt k i))
-
--- ---- the answer
-pub given_unfit : (s : Sending) → None ≡ first_long (length s.parts) 0 s.parts → unsuited s.number s.version (length s.parts) ≡ true → of_parts s ≡ Err NotOfASending
-given_unfit s e u = ap (λ o. unless_long o s) (sym e) ∙ cond-true (unsuited s.number s.version (length s.parts)) (Err NotOfASending) (Ok s) u
-
-pub given_fit : (s : Sending) → None ≡ first_long (length s.parts) 0 s.parts → unsuited s.number s.version (length s.parts) ≡ false → of_parts s ≡ Ok s
-given_fit s e u = ap (λ o. unless_long o s) (sym e) ∙ cond-false (unsuited s.number s.version (length s.parts)) (Err NotOfASending) (Ok s) u
+pub plain_more : (ps : List (List ℕ)) (x : List ℕ) → Plain ps → ((i : ℕ) → i < length x → get_or x i 0 < 256) → Plain (ps ++ x ∷ [])
+plain_more [] x p b zero i hk hi = b i hi
+plain_more [] x p b (suc k) i hk hi = absurd (omega arith)
+plain_more (y ∷ ys) x p b zero i hk hi = p zero i (omega arith) hi
+plain_more (y ∷ ys) x p b (suc k) i hk hi = plain_more ys x (λ m j h l. p (suc m) j (omega arith) l) b k i (omega arith) hi

@@ -2,5 +2,4 @@ pub mod Stores
 pub mod Givens
 pub mod Rules
 pub mod Pieces
-pub mod Kept
 pub mod Wants

@@ -1,12 +1,16 @@
 -- The pieces of a message that is cut: how many, how long, and that they join to it.
-use Rattle.std.proofs.Common.{◌≡◌, ℕ, zero, suc, ◌+◌, ◌-◌, ◌*◌, ◌<◌, ◌≤◌, min, false, cond, ltb, leb, ◌⊎◌, List, [], ◌++◌, length, get_or, take, drop, None, Ok, Err, sym, refl, ap, ◌∙◌, subst, inl, inr, ⊎_elim, append-nil, suc-mul, zero-mul, arith}
+use Rattle.std.proofs.Common.{◌≡◌, ℕ, zero, suc, ◌+◌, ◌-◌, ◌*◌, ◌<◌, ◌≤◌, min, false, cond, ltb, leb, ◌⊎◌, List, [], ◌∷◌, ◌++◌, length, get_or, take, drop, None, Ok, Err, sym, refl, ap, ◌∙◌, subst, inl, inr, ⊎_elim, append-nil, suc-mul, zero-mul, arith}
 use Rattle.refusal.specs.declared.Refusal.TheVariants.{TooLong, NotOfASending}
 use Rattle.std.proofs.lemmas.List.{length-take, length-drop, take_all, drop_all, take-append-drop}
 use Rattle.std.proofs.lemmas.Bool.{cond-true, cond-false, le-leb, lt-leb, lt-ltb, le-ltb, cases_lt}
 use Rattle.std.proofs.lemmas.Bool.Decides.{nat_tests}
-use Rattle.sending.specs.Storage.{joint}
+use Rattle.sending.specs.Sendings.{IsSending}
+use Rattle.sending.specs.Storage.{joint, Plain}
+use Rattle.sending.specs.declared.room.Room.{Room}
+use Rattle.sending.specs.declared.room.Room.TheVariants.{OneX, TwoX}
 use Rattle.sending.specs.Given.{part_limit, first_long, unsuited}
-use Rattle.sending.specs.Cuts.{capacity, part_count, pieces, cut_parts, cutting, Smallest, IsCut}
+use Rattle.sending.specs.Cuts.{room_bytes, capacity, part_count, pieces, cut_parts, cutting, Smallest, IsCut}
+use Rattle.sending.proofs.Rules.{rule_of}
 use Rattle.sending.proofs.Givens.{none_long, limit_least, limit_inner, suited}
 
 -- ---- the first bytes, as many as there are
@@ -38,14 +42,16 @@ pieces_take zero w m k h = absurd (omega arith)
 pieces_take (suc n) w m zero h = omega (arith, length-take w m, zero-mul w)
 pieces_take (suc n) w m (suc k) h = omega (arith, pieces_take n w (drop w m) k (omega arith), length-drop w m, suc-mul k w)
 
+-- the first of them, and those of the rest
+pub pieces_next : (n w : ℕ) (m : List ℕ) → 1 ≤ n → pieces n w m ≡ take w m ∷ pieces (n - 1) w (drop w m)
+pieces_next zero w m h = absurd (omega arith)
+pieces_next (suc n) w m h = ap (λ k. take w m ∷ pieces k w (drop w m)) (let e : n ≡ suc n - 1 = omega arith in e)
+
 pieces_last : (n w b : ℕ) (m : List ℕ) → length m ≤ n * w + b → length (get_or (pieces n w m) n []) ≤ b
 pieces_last zero w b m h = omega (arith, zero-mul w)
 pieces_last (suc n) w b m h = pieces_last n w b (drop w m) (omega (arith, length-drop w m, suc-mul n w))
 
 -- ---- the smallest count that is enough
-capacity_more : (c : ℕ) → (capacity c 2 ≤ capacity c 3) × (capacity c 3 ≤ capacity c 4)
-capacity_more c = (omega arith, omega arith)
-
 -- one part, or the smallest count of several
 pub counts : (c m : ℕ) → m ≤ capacity c 4 → ((m ≤ c - 7) × (part_count c m ≡ 1)) ⊎ ((c - 7 < m) × Smallest c m (part_count c m))
 counts c m most =
@@ -82,6 +88,10 @@ counts c m most =
         let low : 3 ≤ k = at_least_three k lo e h2 in
         ⊎_elim (λ (l : 3 < k). omega arith) (λ (l : k ≤ 3). let is : k ≡ 3 = omega arith in let f : m ≤ capacity c 3 = subst (λ n. m ≤ capacity c n) is e in absurd (omega arith)) (cases_lt 3 k)
 
+pub count_range : (c m : ℕ) → m ≤ capacity c 4 → (1 ≤ part_count c m) × (part_count c m ≤ 4)
+count_range c m most =
+    ⊎_elim (λ h. (omega (arith, h.1), omega (arith, h.1))) (λ h. (omega (arith, h.1.two_to_four.0), h.1.two_to_four.1)) (counts c m most)
+
 -- ---- every cut is one as the rule says
 pub is_cut : (c : ℕ) (m : List ℕ) → length m ≤ capacity c 4 → IsCut c m (cut_parts c m)
 is_cut c m most =
@@ -103,7 +113,7 @@ last_piece c m small most =
     (λ e. omega (arith, pieces_last (part_count c (length m) - 1) (c - 7) (c - 11) m e.1.enough, limit_least (part_count c (length m)) (part_count c (length m) - 1)))
     (counts c (length m) most)
 
-pub cut_short : (c : ℕ) (m : List ℕ) → c ≤ 58 → length m ≤ capacity c 4 → first_long (length (cut_parts c m)) 0 (cut_parts c m) ≡ None
+cut_short : (c : ℕ) (m : List ℕ) → c ≤ 58 → length m ≤ capacity c 4 → first_long (length (cut_parts c m)) 0 (cut_parts c m) ≡ None
 cut_short c m small most =
     let n = part_count c (length m) in
     let some : 1 ≤ n = ⊎_elim (λ h. omega (arith, h.1)) (λ h. omega (arith, h.1.two_to_four.0)) (counts c (length m) most) in
@@ -117,13 +127,22 @@ cut_short c m small most =
     (λ (l : n - 1 ≤ k). let e : n - 1 ≡ k = omega arith in subst (λ j. length (get_or (cut_parts c m) j []) ≤ part_limit n j) e (last_piece c m small most))
     (cases_lt k (n - 1)))))
 
--- the same, where the count is known
-pub cut_short_at : (c n : ℕ) (m : List ℕ) → c ≤ 58 → length m ≤ capacity c 4 → part_count c (length m) ≡ n → first_long (length (pieces (n - 1) (c - 7) m)) 0 (pieces (n - 1) (c - 7) m) ≡ None
-cut_short_at c n m small most e = subst (λ k. first_long (length (pieces (k - 1) (c - 7) m)) 0 (pieces (k - 1) (c - 7) m) ≡ None) e (cut_short c m small most)
-
 -- what suits one part suits more
-pub suits_more : (number version n : ℕ) → unsuited number version 1 ≡ false → 1 ≤ n → n ≤ 4 → unsuited number version n ≡ false
+suits_more : (number version n : ℕ) → unsuited number version 1 ≡ false → 1 ≤ n → n ≤ 4 → unsuited number version n ≡ false
 suits_more number version n e lo hi = let s = suited number version 1 e in grind (arith, nat_tests)
+
+small : (r : Room) → room_bytes r ≤ 58
+small OneX = omega arith
+small TwoX = omega arith
+
+-- a message that is cut makes a sending
+pub cut_rule : (r : Room) (n v : ℕ) (m : List ℕ) → length m ≤ capacity (room_bytes r) 4 → unsuited n v 1 ≡ false → n < 256 → Plain (cut_parts (room_bytes r) m)
+    → IsSending (record { number = n; version = v; parts = cut_parts (room_bytes r) m })
+cut_rule r n v m most suits low plain =
+    let c = room_bytes r in
+    let k = count_range c (length m) most in
+    rule_of n v (cut_parts c m) (cut_short c m (small r) most)
+    (subst (λ l. unsuited n v l ≡ false) (sym (pieces_length (part_count c (length m) - 1) (c - 7) m)) (suits_more n v (part_count c (length m) - 1 + 1) suits (omega arith) (omega arith))) low plain
 
 -- ---- the answer
 pub cut_long : (c number version : ℕ) (m : List ℕ) → capacity c 4 < length m → Err (TooLong (length m)) ≡ cutting c number version m
@@ -133,7 +152,3 @@ cut_long c number version m h = sym (cond-true (ltb (capacity c 4) (length m)) _
 pub cut_rest : (c number version : ℕ) (m : List ℕ) → length m ≤ capacity c 4 → cutting c number version m ≡ cond (unsuited number version 1) (Err NotOfASending) (Ok (record { number = number; version = version; parts = cut_parts c m }))
 unfolding cutting
 cut_rest c number version m h = cond-false (ltb (capacity c 4) (length m)) _ _ (le-ltb (capacity c 4) (length m) h)
-
-pub count_range : (c m : ℕ) → m ≤ capacity c 4 → (1 ≤ part_count c m) × (part_count c m ≤ 4)
-count_range c m most =
-    ⊎_elim (λ h. (omega (arith, h.1), omega (arith, h.1))) (λ h. (omega (arith, h.1.two_to_four.0), h.1.two_to_four.1)) (counts c m most)

@@ -3,7 +3,7 @@ use mathlib.Core.Logic.{∥∥₁_elim}
 use mathlib.Core.HLevel.{Π_prop, ×_prop}
 use native.Mathlib.Bridge.{le_prop}
 use Rattle.std.proofs.Common.{◌≡◌, ℕ, ◌-◌, ◌<◌, ◌≤◌, false, List, [], length, get_or, None, subst, arith}
-use Rattle.sending.specs.Sendings.{Sending, IsSending, last_part}
+use Rattle.sending.specs.Sendings.{Sending, IsSending}
 use Rattle.sending.specs.Storage.{Plain}
 use Rattle.sending.specs.Given.{part_limit, first_long, unsuited}
 use Rattle.sending.proofs.Givens.{suited, short_parts, limit_most, limit_last}
@@ -30,9 +30,6 @@ numbers s r = (r.number_stands.0, r.number_stands.1, r.version_stands, r.one_to_
 -- how long a part is
 pub part_short : (s : Sending) → IsSending s → (k : ℕ) → k < length s.parts → length (get_or s.parts k []) ≤ 51
 part_short s r k h = r.parts_fit k h
-
-pub last_short : (s : Sending) → IsSending s → 2 ≤ length s.parts → length (get_or s.parts (last_part s) []) ≤ 47
-last_short s r h = r.last_fits h
 
 -- what lies in a part
 pub part_bytes : (s : Sending) → IsSending s → (k i : ℕ) → k < length s.parts → i < length (get_or s.parts k []) → get_or (get_or s.parts k []) i 0 < 256

@@ -1,5 +1,5 @@
 -- Cutting a message into the parts of a sending, or why it is not cut.
-use Rattle.std.specs.Prelude.{◌≡◌, ℕ, zero, suc, ◌+◌, ◌-◌, ◌*◌, ◌<◌, ◌≤◌, min, cond, List, [], ◌∷◌, length, take, drop, Ok, Err, Result, nat_le, nat_lt, slice_index_or}
+use Rattle.std.specs.Prelude.{◌≡◌, ℕ, zero, suc, ◌+◌, ◌-◌, ◌*◌, ◌<◌, ◌≤◌, min, cond, List, [], ◌∷◌, length, take, drop, Ok, Err, Result, nat_le, nat_lt, slice_index_or, ◌==◌}
 use Rattle.std.specs.List.{flat_map}
 use Rattle.refusal.specs.declared.Refusal.{Refusal}
 use Rattle.refusal.specs.declared.Refusal.TheVariants.{TooLong, NotOfASending}
@@ -16,6 +16,10 @@ room_bytes TwoX = 58
 -- how many bytes of a message go into n parts: c - 7 into each but the last, c - 11 into the last, which has the message CRC
 abbrev pub capacity : ℕ → ℕ → ℕ
 capacity c n = (n - 1) * (c - 7) + (c - 11)
+
+-- the same, where a single part has no message CRC beside it
+abbrev pub fitting : ℕ → ℕ → ℕ
+fitting c n = cond (n == 1) (c - 7) (capacity c n)
 
 -- into how many parts a message of m bytes is cut
 abbrev pub part_count : ℕ → ℕ → ℕ

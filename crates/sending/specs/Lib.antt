@@ -1,5 +1,6 @@
 pub mod Sendings
 pub mod Storage
+pub mod Stored
 pub mod Given
 pub mod Cuts
 pub mod Model

@@ -3,22 +3,11 @@ use Rattle.std.specs.Borrow.{Bor}
 use Rattle.std.specs.Prelude.{ℕ, List, Some, None, Ok, Err, Option, Result}
 use Rattle.refusal.specs.declared.Refusal.{Refusal}
 use Rattle.sending.specs.Sendings as value
-use Rattle.sending.specs.Storage.{stored}
-use Rattle.sending.specs.declared.sending.Sending.{Sending}
 use Rattle.sending.specs.declared.block.Block.{Block}
-
--- the sending that lies in memory
-abbrev pub sent : Sending → value.Sending
-sent s = stored s.number s.version s.count s.places s.bytes
 
 -- the block that was read or is to be written
 abbrev pub means : Block → value.Block
 means b = record { number = b.number; version = b.version; part = b.part; last = b.last; body = b.body.now; check = b.check }
-
--- an answer with its sending as a value
-abbrev pub told : Result Sending Refusal → Result value.Sending Refusal
-told (Ok s) = Ok (sent s)
-told (Err e) = Err e
 
 -- an answer with its block as a value
 abbrev pub shown : Result Block Refusal → Result value.Block Refusal

@@ -1,7 +1,6 @@
--- How a sending lies in memory: its message in one piece, and where in it each part ends.
-use Rattle.std.specs.Prelude.{ℕ, ◌+◌, ◌<◌, List, [], ◌∷◌, length, take, slice_index, slice_index_or, slice_range}
+-- Parts that lie one behind the other: joined, cut out again, and where each ends.
+use Rattle.std.specs.Prelude.{ℕ, ◌+◌, ◌<◌, List, [], ◌∷◌, length, slice_index, slice_index_or, slice_range}
 use Rattle.std.specs.List.{flat_map}
-use Rattle.sending.specs.Sendings.{Sending}
 
 -- parts joined
 abbrev pub joint : List (List ℕ) → List ℕ
@@ -20,7 +19,3 @@ cuts p (e ∷ es) bytes = slice_range bytes p e ∷ cuts e es bytes
 abbrev pub ends : ℕ → List (List ℕ) → List ℕ
 ends p [] = []
 ends p (x ∷ xs) = (p + length x) ∷ ends (p + length x) xs
-
--- the sending that lies in such memory
-abbrev pub stored : ℕ → ℕ → ℕ → List ℕ → List ℕ → Sending
-stored number version count places bytes = record { number = number; version = version; parts = cuts 0 (take count places) bytes }

@@ -1,12 +1,13 @@
 -- Which part and which block of a sending is meant.
-use Rattle.std.specs.Prelude.{ℕ, cond, List, [], length, Some, None, Ok, Err, Option, Result, nat_lt, slice_index_or}
+use Rattle.std.specs.Prelude.{ℕ, cond, List, length, Ok, Err, Option, Result, nat_lt}
+use Rattle.std.specs.List.{slice_get}
 use Rattle.refusal.specs.declared.Refusal.{Refusal}
 use Rattle.refusal.specs.declared.Refusal.TheVariants.{NotOfASending}
 use Rattle.sending.specs.Sendings.{Sending, Block, block}
 
 -- part i, if there is one
-unfoldable pub wanted_part : Sending → ℕ → Option (List ℕ)
-wanted_part s i = cond (nat_lt i (length s.parts)) (Some (slice_index_or s.parts i [])) None
+abbrev pub wanted_part : Sending → ℕ → Option (List ℕ)
+wanted_part s i = slice_get s.parts i
 
 -- block i, refused above the last
 unfoldable pub wanted : Sending → ℕ → Result Block Refusal

@@ -1,7 +1,7 @@
 // One block, as it is read or to be written.
 
 // One part of a message, with what its block says of it. It borrows its body.
-#[derive(Clone, Copy)]
+#[derive(Clone, Copy, PartialEq, Eq, Debug)]
 pub struct Block<'a> {
     pub number: u8,
     pub version: u8,

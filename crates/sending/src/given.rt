@@ -1,19 +1,17 @@
 // A sending of given parts.
-ghost use Rattle.std.specs.Prelude.{◌≡◌, ℕ, ◌<◌, false, length, None};
+ghost use Rattle.std.specs.Prelude.{◌≡◌, ◌-◌, ◌<◌, length};
 ghost use Rattle.sending.specs.Given.{part_limit, first_long, texts, unsuited, of_parts};
-ghost use Rattle.sending.specs.Model.{sent, told};
 
 use super::limits::{LAST_MOST, PART_MOST, PARTS_MOST, VERSION_MOST};
+use super::parts::Parts;
 use super::sending::Sending;
-use super::store::lay_parts;
 use refusal::Refusal;
 
 // How many bytes part k of n may have.
 fn limit(n: usize, k: usize) -> usize
-    requires { k < n }
     ensures { result ≡ part_limit n k }
 {
-    if n >= 2 && k + 1 == n {
+    if n >= 2 && k == n - 1 {
         LAST_MOST
     } else {
         PART_MOST
@@ -40,29 +38,10 @@ pub(crate) fn not_of_a_sending(number: u8, version: u8, count: usize) -> bool
     number == 0 || version > VERSION_MOST || count == 0 || count > PARTS_MOST
 }
 
-// The sending of parts that make one.
-pub(crate) fn keep(number: u8, version: u8, parts: &[&[u8]]) -> Sending
-    requires short { first_long (length (texts parts.now)) 0 (texts parts.now) ≡ None }
-    requires suited { unsuited number version (length (texts parts.now)) ≡ false }
-    ensures { sent result ≡ record { number = number; version = version; parts = texts parts.now } }
-{
-    let kept = lay_parts(parts);
-    let count = parts.len();
-    let places = kept.places;
-    let bytes = kept.bytes;
-    Sending {
-        number,
-        version,
-        count,
-        places,
-        bytes,
-    }
-}
-
 impl Sending {
     // A sending of given parts, refused where a part is too long, then where no sending has the number, version or count.
     pub fn of_parts(number: u8, version: u8, parts: &[&[u8]]) -> Result<Sending, Refusal>
-        ensures answer { told result ≡ of_parts (record { number = number; version = version; parts = texts parts.now }) }
+        ensures answer { result ≡ of_parts (record { number = number; version = version; parts = texts parts.now }) }
     {
         if let Some(length) = too_long(parts) {
             return Err(Refusal::TooLong(length));
@@ -70,6 +49,10 @@ impl Sending {
         if not_of_a_sending(number, version, parts.len()) {
             return Err(Refusal::NotOfASending);
         }
-        Ok(keep(number, version, parts))
+        Ok(Sending {
+            number,
+            version,
+            parts: Parts::of(parts),
+        })
     }
 }

@@ -7,12 +7,15 @@ mod blocks;
 mod cut;
 mod given;
 mod limits;
+mod parts;
 mod reads;
 mod room;
 mod sending;
-mod store;
 
 pub use block::Block;
-pub use limits::{BEFORE_BODY, BESIDE_BODY, PART_WEIGHT, UNCOUNTED, VERSION_WEIGHT, WORD};
+pub use limits::{
+    BEFORE_BODY, BESIDE_BODY, LAST_MOST, MESSAGE_MOST, PART_MOST, PART_WEIGHT, PARTS_MOST,
+    UNCOUNTED, VERSION_WEIGHT, WORD,
+};
 pub use room::Room;
 pub use sending::Sending;

@@ -3,7 +3,7 @@ ghost use Rattle.std.specs.Prelude.{◌≡◌};
 ghost use Rattle.sending.specs.Cuts.{room_bytes};
 
 // The two kinds of payload for which messages are cut.
-#[derive(Clone, Copy)]
+#[derive(Clone, Copy, PartialEq, Eq, Debug)]
 pub enum Room {
     // a payload of 30 bytes, EB 52 among them
     OneX,

@@ -1,17 +1,18 @@
 -- What asking for a block answers, how long it is, and what writing it answers and leaves.
-use Rattle.std.proofs.Common.{◌≡◌, ℕ, ◌+◌, ◌<◌, ◌≤◌, Bool, true, false, cond, ltb, List, [], length, Ok, Err, Result, sym, refl, ap, ◌∙◌, inr, arith}
+use Rattle.std.proofs.Common.{◌≡◌, ℕ, ◌+◌, ◌<◌, ◌≤◌, Bool, true, false, cond, ltb, List, [], length, Ok, Err, Result, sym, refl, ap, ◌∙◌, ⊎_elim, arith}
 use Rattle.refusal.specs.declared.Refusal.{Refusal}
 use Rattle.refusal.specs.declared.Refusal.TheVariants.{OutputLength, NotOfASending}
+use Rattle.std.specs.Result.{result_unwrap_or}
 use Rattle.std.proofs.lemmas.List.{get_or_past}
-use Rattle.std.proofs.lemmas.Bool.{cond-true, cond-false, lt-ltb, le-ltb, ltb-true, ltb-false}
+use Rattle.std.proofs.lemmas.Bool.{cond-true, cond-false, lt-ltb, le-ltb, cases_lt, ltb-true, ltb-false}
 use Rattle.buffers.specs.Laid.{laid}
 use Rattle.sending.specs.Sendings.{Sending, Block, IsSending, block}
-use Rattle.wire.specs.Wire.{check_bytes, block_bytes}
+use Rattle.wire.specs.Wire.{check_bytes, block_bytes, Fits}
 use Rattle.wire.specs.Writing.{size, wanted_size, writing, written}
 use Rattle.sending.specs.Wanted.{wanted}
-use Rattle.sending.proofs.Rules.{part_short}
+use Rattle.sending.proofs.Rules.{numbers, part_short}
 use Rattle.sending.proofs.Wants.{check_none}
-use Rattle.wire.proofs.Wires.{length_block, length_check}
+use Rattle.wire.proofs.Wires.{length_block}
 
 ok_picked : (t : Bool) (b y : Block) (e : Refusal) → ◌≡◌ {A = Result Block Refusal} (Ok b) (cond t (Ok y) (Err e)) → (t ≡ true) × (b ≡ y)
 ok_picked true b y e is = (refl, cc)
@@ -34,15 +35,18 @@ module _ (s : Sending) (i : ℕ) where
   unfolding size
   size_is = refl
 
-  pub size_above : 1 ≤ length s.parts → length s.parts ≤ i → size s i ≡ 7
+  pub size_above : length s.parts ≤ i → size s i ≡ 7
   unfolding size
-  size_above some h =
-      let none : length (check_bytes (block s i).check) ≡ 0 = ap (λ k. length (check_bytes k)) (sym (check_none s i some (inr (λ e. omega arith)))) in
+  size_above h =
+      let none : length (check_bytes (block s i).check) ≡ 0 = ap (λ k. length (check_bytes k)) (sym (check_none s i h)) in
       omega (arith, length_block (block s i), none, ap length (get_or_past s.parts i [] h))
 
-  pub size_most : IsSending s → i < length s.parts → size s i ≤ 62
+  pub size_some : 7 ≤ size s i
   unfolding size
-  size_most r h = omega (arith, length_block (block s i), length_check (block s i).check, part_short s r i h)
+  size_some = omega (arith, length_block (block s i))
+
+  pub fits : IsSending s → i < length s.parts → Fits (block s i)
+  fits r h = let n = numbers s r in record { body = part_short s r i h; version = omega arith; part = omega arith; last = omega arith }
 
   pub length_none : length s.parts ≤ i → Err NotOfASending ≡ wanted_size s i
   unfolding wanted_size
@@ -51,6 +55,15 @@ module _ (s : Sending) (i : ℕ) where
   pub length_some : i < length s.parts → Ok (size s i) ≡ wanted_size s i
   unfolding wanted_size
   length_some h = sym (cond-true (ltb i (length s.parts)) (Ok (size s i)) (Err NotOfASending) (lt-ltb i (length s.parts) h))
+
+  -- the length, with that of a block without body where there is none
+  pub size_found : (r : Result ℕ Refusal) (n : ℕ) → r ≡ wanted_size s i → n ≡ result_unwrap_or r 7 → n ≡ size s i
+  size_found r n e is =
+      is ∙ ap (λ r. result_unwrap_or r 7) e
+      ∙ ⊎_elim
+      (λ (h : i < length s.parts). ap (λ r. result_unwrap_or r 7) (sym (length_some h)))
+      (λ (h : length s.parts ≤ i). ap (λ r. result_unwrap_or r 7) (sym (length_none h)) ∙ sym (size_above h))
+      (cases_lt i (length s.parts))
 
   module _ (at : ℕ) (out : List ℕ) where
     pub write_short : length out < at + size s i → (Err (OutputLength (length out)) ≡ writing s i at (length out)) × (out ≡ written s i at out)

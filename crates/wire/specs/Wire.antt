@@ -1,5 +1,5 @@
 -- The wire form of a block.
-use Rattle.std.specs.Prelude.{ℕ, ◌+◌, ◌*◌, ◌/◌, ◌%◌, List, [], ◌∷◌, ◌++◌, length, Some, None, Option}
+use Rattle.std.specs.Prelude.{ℕ, ◌+◌, ◌<◌, ◌≤◌, ◌*◌, ◌/◌, ◌%◌, List, [], ◌∷◌, ◌++◌, length, Some, None, Option}
 use Rattle.crc.specs.Crc.{crc}
 use Rattle.sending.specs.Sendings.{Block}
 
@@ -27,3 +27,10 @@ covered b = (head b ++ b.body) ++ check_bytes b.check
 -- the bytes of a block, as a payload carries them
 unfoldable pub block_bytes : Block → List ℕ
 block_bytes b = covered b ++ word_bytes (crc (covered b))
+
+-- the numbers of a block have room in these bytes
+pub record Fits (b : Block) : Type 0 where
+  pub body : length b.body ≤ 51
+  pub version : b.version < 16
+  pub part : b.part < 4
+  pub last : b.last < 4

@@ -1,22 +1,24 @@
-use Rattle.std.proofs.Common.{◌≡◌, ◌-◌, length, Ok, ap, ◌∙◌, arith}
-use Rattle.sending.specs.Model.{sent}
-use Rattle.sending.specs.Wanted.{wanted_part}
-use Rattle.sending.proofs.Kept.{some, long}
+use Rattle.std.proofs.Common.{◌≡◌, ℕ, List, Ok, Err, Result, Bor, sym, ap, ◌∙◌}
+use Rattle.std.specs.List.{slice_get}
+use Rattle.std.specs.Option.{ok_or}
+use Rattle.std.proofs.lemmas.Result.{err_from_is_err_and}
+use Rattle.refusal.specs.declared.Refusal.{Refusal}
+use Rattle.refusal.specs.declared.Refusal.TheVariants.{NotOfASending}
+use Rattle.sending.specs.Model.{part_shown, shown}
 use Rattle.sending.proofs.Wants.{block_none, block_some}
 use Rattle.sending.proofs.sending.Sending.block.Goals as goal
 
-pub overflow_sub-last : goal.overflow_sub-last
-overflow_sub-last c = some c.args.self.now
+pub returns-in_err-body-clause-answer : goal.returns-in_err-body-clause-answer
+returns-in_err-body-clause-answer c =
+    let none = sym (ap part_shown c.in_err-body.ensures.ok_part) ∙ c.get.ensures ∙ (λ j. slice_get (c.self.view_is j).parts (c.from.ensures j)) in
+    let r = err_from_is_err_and c.from_residual.result c.from_residual.ensures.1 in
+    let e : ◌≡◌ {A = Result (Bor (List ℕ)) Refusal} (Err c.in_err-body.field-0.0) (Err NotOfASending) = c.in_err-body.ensures.value ∙ ap (λ o. ok_or o NotOfASending) c.in_err-body.ensures.ok_part in
+    let why : c.in_err-body.field-0.0 ≡ NotOfASending = cc in
+    ap shown (r.1 ∙ ap Err (r.2 ∙ why)) ∙ block_none c.args.self.now c.args.i none
 
-pub returns-in-None : goal.returns-in-None
-returns-in-None c =
-    let s = sent c.args.self.now in
-    record { answer = block_none s c.args.i (c.in-None.ensures.answer ∙ ap (wanted_part s) c.from.ensures) }
-
-pub returns-in-Some : goal.returns-in-Some
-returns-in-Some c =
-    let s = sent c.args.self.now in
-    let b = block_some s c.args.i c.in-Some.body.now (c.in-Some.ensures.answer ∙ ap (wanted_part s) c.from.ensures) in
-    let l : c.args.self.now.count - 1 ≡ length s.parts - 1 = omega (arith, long c.args.self.now) in
-    let k = c.check-check.ensures in
-    record { answer = (λ j. Ok (record { number = s.number; version = s.version; part = c.args.i; last = l j; body = b.0 j; check = k j })) ∙ b.1 }
+pub returns-clause-answer : goal.returns-clause-answer
+returns-clause-answer c =
+    let v = c.self.view_is in
+    let some = sym (ap part_shown c.in_ok-body.ensures.ok_part) ∙ c.get.ensures ∙ (λ j. slice_get (v j).parts (c.from.ensures j)) in
+    let b = block_some c.args.self.now c.args.i c.in_ok-body.body.now some in
+    (λ j. Ok (record { number = (v j).number; version = (v j).version; part = c.args.i; last = c.last.ensures j; body = b.0 j; check = c.check.ensures j })) ∙ b.1
