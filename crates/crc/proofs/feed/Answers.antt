@@ -1,15 +1,20 @@
--- The table's rule, by one test of the whole table, and what it makes of one byte more.
-use Rattle.std.proofs.Common.{ℕ, ◌*◌, ◌/◌, ◌^◌, ◌<◌, Bool, eqb, get_or, arith, eqb→eq}
+-- The table's rule, by one computed test of the whole table, and what it makes of one byte more.
+use Rattle.std.proofs.Common.{◌≡◌, ℕ, ◌*◌, ◌/◌, ◌^◌, ◌<◌, map, get_or, refl, ap, ◌∙◌, arith}
+use Rattle.std.specs.List.{range_with_len}
+use Rattle.std.proofs.lemmas.List.FromFn.{get_or-map-range_with_len}
 use lib.Bits.{bit_xor, xor_lt}
 use Rattle.crc.specs.Crc.{times, shifted}
+use Rattle.crc.specs.declared.TheConstants.{TABLE}
 use Rattle.crc.proofs.Linear.{fed_split}
-use Rattle.crc.proofs.Table.{at}
-use Rattle.crc.proofs.Values.{table}
 use Rattle.crc.proofs.feed.Goals as goal
 
--- entry k is what eight shifts make of k in the top byte
-right : ℕ → ℕ → Bool
-right k x = eqb x (times 8 shifted (k * 2 ^ 24))
+-- what eight shifts make of k in the top byte
+entry : ℕ → ℕ
+entry k = times 8 shifted (k * 2 ^ 24)
+
+table_right : TABLE ≡ map entry (range_with_len 0 256)
+unfolding entry shifted
+table_right = refl
 
 pub bounds-top : goal.bounds-top
 bounds-top c = xor_lt 8 (c.args.register / 16777216) c.args.byte (omega arith) (omega arith)
@@ -18,8 +23,8 @@ pub offset_bounds-top : goal.offset_bounds-top
 offset_bounds-top c = record { fits = omega (arith, xor_lt 8 (c.args.register / 16777216) c.args.byte (omega arith) (omega arith)) }
 
 pub returns : goal.returns
-unfolding right shifted
+unfolding entry
 returns c =
     let top = bit_xor (c.args.register / 2 ^ 24) c.args.byte in
     let h : top < 256 = xor_lt 8 (c.args.register / 2 ^ 24) c.args.byte (omega arith) (omega arith) in
-    fed_split c.args.register c.args.byte _ (omega arith) (omega arith) (eqb→eq (get_or table top 0) (times 8 shifted (top * 2 ^ 24)) (at right table tt top h))
+    fed_split c.args.register c.args.byte _ (omega arith) (omega arith) (ap (λ xs. get_or xs top 0) table_right ∙ get_or-map-range_with_len entry 0 256 top top 0 h (omega arith))
