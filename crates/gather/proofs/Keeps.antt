@@ -1,6 +1,8 @@
 -- What a slot's state and bytes mean, through each thing that the code does to them.
-use Rattle.std.proofs.Common.{◌≡◌, ℕ, zero, suc, ◌+◌, ◌<◌, ◌≤◌, min, Bool, true, false, cond, ◌&&◌, eqb, ltb, List, [], ◌∷◌, map, length, get_or, take, set, replicate, Some, None, Option, sym, refl, ap, ◌∙◌, subst, arith}
+use Rattle.std.proofs.Common.{◌≡◌, ℕ, zero, suc, ◌+◌, ◌<◌, ◌≤◌, min, Bool, true, false, cond, ◌&&◌, eqb, ltb, List, [], ◌∷◌, map, length, get_or, take, set, replicate, Some, None, Option, sym, refl, ap, ◌∙◌, arith}
 use mathlib.Core.Path.{fun_ext}
+use lib.ListN.{length-map}
+use Rattle.std.proofs.lemmas.List.{length-set}
 use Rattle.std.proofs.lemmas.Bool.{eqb-true}
 use Rattle.std.proofs.lemmas.Bool.Decides.{nat_tests}
 use Rattle.sending.specs.Sendings.{Block}
@@ -8,8 +10,9 @@ use Rattle.gather.specs.Gathering as value
 use Rattle.gather.specs.declared.slot.Part.{Part}
 use Rattle.gather.specs.declared.slot.State.{State}
 use Rattle.gather.specs.declared.slot.State.TheVariants.{Empty, Gathering}
+use Rattle.gather.specs.States.{last_in, parts_in}
 use Rattle.gather.specs.Model.{room, part_in, held_in, slot_in}
-use Rattle.gather.specs.Keeping.{fresh_part, renewed, noted, FewParts, FourParts, with_part}
+use Rattle.gather.specs.Keeping.{fresh_part, renewed, noted, with_part}
 
 aged : (b : Bool) (k : ℕ) (p : Part) (bs : List ℕ) → part_in k (cond b None (Some p)) bs ≡ cond b None (part_in k (Some p) bs)
 aged true k p bs = refl
@@ -52,6 +55,20 @@ held_put qs bss k p bs j h h' =
     go true h = ap (λ (i : ℕ). part_in i (Some p) bs) (h refl)
     go false h = refl
 
+-- a state has a place for each of four parts
+four_renewed : (t : ℕ) (b : Block) (s : State) → length (parts_in s) ≡ 4 → length (parts_in (renewed t b.version b.last s)) ≡ 4
+four_renewed t b Empty h = refl
+four_renewed t b (Gathering v l ps) h = go (eqb v b.version) (eqb l b.last)
+  where
+    go : (c d : Bool) → length (parts_in (cond c (cond d (Gathering b.version b.last (map (fresh_part t) ps)) (Gathering b.version b.last (replicate 4 None))) (Gathering b.version b.last (replicate 4 None)))) ≡ 4
+    go true true = length-map ps (fresh_part t) ∙ h
+    go true false = refl
+    go false d = refl
+
+four_noted : (k : ℕ) (p : Part) (s : State) → length (parts_in (noted k p s)) ≡ length (parts_in s)
+four_noted k p Empty = refl
+four_noted k p (Gathering v l ps) = length-set ps k (Some p)
+
 module _ (t : ℕ) (b : Block) (bss : List (List ℕ)) where
   recent_none : (c : Bool) → value.recent t (cond c None None) ≡ None
   recent_none true = refl
@@ -84,14 +101,14 @@ module _ (t : ℕ) (b : Block) (bss : List (List ℕ)) where
   -- the three steps by which a block's part is kept
   pub kept_is : (s s' s'' : State) (size : ℕ) (bs : List ℕ) → b.part < length bss → b.part < 4
       → size ≡ length b.body → size ≤ room b.part → take size bs ≡ b.body
-      → s' ≡ renewed t b.version b.last s → FourParts s' → s'' ≡ noted b.part (record { size = size; frame = t; check = b.check }) s'
+      → s' ≡ renewed t b.version b.last s → length (parts_in s) ≡ 4 → s'' ≡ noted b.part (record { size = size; frame = t; check = b.check }) s'
       → slot_in s'' (set bss b.part bs) ≡ with_part t b (slot_in s bss)
   kept_is s s' s'' size bs h h' e fits is e' four e'' =
       let r = renewed_is s in
       let qs = r.0 in
       let p : Part = record { size = size; frame = t; check = b.check } in
       let at : s' ≡ Gathering b.version b.last qs = e' ∙ r.1 in
-      let long : length qs ≡ 4 = subst FourParts at four in
+      let long : length qs ≡ 4 = sym (ap length (ap parts_in r.1)) ∙ four_renewed t b s four in
       let l : b.part < length qs = omega arith in
       ap (λ (z : State). slot_in z (set bss b.part bs)) (e'' ∙ ap (noted b.part p) at)
       ∙ ap (λ (f : ℕ → Option value.Part). record { version = b.version; last = b.last; held = f })
@@ -99,7 +116,12 @@ module _ (t : ℕ) (b : Block) (bss : List (List ℕ)) where
       ∙ ap (λ (o : Option value.Part). cond (eqb j b.part) o (held_in qs bss j)) (new_part size bs e fits is)
       ∙ ap (cond (eqb j b.part) (Some (record { body = b.body; check = b.check; frame = t }))) (r.2 j)))
 
-pub few_kept : (t : ℕ) (b : Block) (s s' s'' : State) (p : Part) → b.last ≤ 3 → s' ≡ renewed t b.version b.last s → s'' ≡ noted b.part p s' → FewParts s''
+pub few_kept : (t : ℕ) (b : Block) (s s' s'' : State) (p : Part) → b.last ≤ 3 → s' ≡ renewed t b.version b.last s → s'' ≡ noted b.part p s' → last_in s'' ≤ 3
 few_kept t b s s' s'' p h e e' =
     let r = renewed_is t b [] s in
-    subst FewParts (sym (e' ∙ ap (noted b.part p) (e ∙ r.1))) h
+    let l = ap last_in (e' ∙ ap (noted b.part p) (e ∙ r.1)) in
+    omega (arith, l)
+
+pub four_kept : (t : ℕ) (b : Block) (s s' s'' : State) (p : Part) → length (parts_in s) ≡ 4 → s' ≡ renewed t b.version b.last s → s'' ≡ noted b.part p s' → length (parts_in s'') ≡ 4
+four_kept t b s s' s'' p h e e' =
+    ap length (ap parts_in (e' ∙ ap (noted b.part p) e)) ∙ four_noted b.part p (renewed t b.version b.last s) ∙ four_renewed t b s h

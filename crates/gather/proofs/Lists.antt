@@ -1,10 +1,12 @@
 -- Watch lists: their first wrong index, and tables made for them.
-use Rattle.std.proofs.Common.{◌≡◌, ℕ, zero, suc, ◌+◌, ◌-◌, ◌<◌, ◌≤◌, Bool, true, false, cond, eqb, ltb, List, [], ◌∷◌, ◌++◌, map, length, get_or, take, set, replicate, Some, None, Option, sym, refl, ap, ◌∙◌, ⊎_elim, arith}
+use Rattle.std.proofs.Common.{◌≡◌, ℕ, zero, suc, ◌+◌, ◌<◌, ◌≤◌, Bool, true, false, cond, eqb, ltb, ◌||◌, List, [], ◌∷◌, ◌++◌, map, length, get_or, take, set, replicate, Some, None, Option, sym, refl, ap, ◌∙◌, ⊎_elim, arith}
 use mathlib.Core.Path.{fun_ext}
 use lib.ListN.{length-map}
-use Rattle.std.specs.Option.{option_or}
+use Rattle.std.specs.Bool.{then_some}
+use Rattle.std.specs.List.{list_any}
+use Rattle.std.specs.Option.{option_or, MatchOption}
 use Rattle.std.proofs.lemmas.List.{map-set, map_push, take-map, take-take, take_more, take_more_set, take-replicate, replicate_more, get_or-take, length-take-le}
-use Rattle.std.proofs.lemmas.Bool.{true≢false, or_left, or_right, or_from, eq-eqb, ne_eqb, lt-ltb, le-ltb, cases_lt}
+use Rattle.std.proofs.lemmas.Bool.{true≢false, or_left, or_right, eq-eqb, ne_eqb, lt-ltb, cases_lt}
 use Rattle.gather.specs.Gathering as value
 use Rattle.gather.specs.Gathering.{nothing}
 use Rattle.gather.specs.Arriving.{watched}
@@ -12,41 +14,44 @@ use Rattle.gather.specs.Tables.{table_of}
 use Rattle.gather.specs.Watching.{wrong_at, wrong_from, watch_fault, Watchable}
 use Rattle.gather.specs.declared.slot.Slot.{Slot}
 use Rattle.gather.specs.Model.{model}
-use Rattle.gather.specs.Serving.{Absent, empty}
-use Rattle.gather.proofs.Slots.{numbers, watched_at, watched_not}
+use Rattle.gather.specs.Serving.{empty}
+use Rattle.gather.proofs.Slots.{numbers, watched_at}
+
+watched_any : (n : ℕ) (ws : List ℕ) → list_any (λ (w : ℕ). eqb w n) ws ≡ watched ws n
+watched_any n [] = refl
+watched_any n (w ∷ ws) = ap (λ (b : Bool). eqb w n || b) (watched_any n ws)
 
 module _ (ws : List ℕ) (i : ℕ) where
   pub wrong_zero : get_or ws i 0 ≡ 0 → wrong_at ws i ≡ true
   wrong_zero e = or_left (eqb (get_or ws i 0) 0) (watched (take i ws) (get_or ws i 0)) (eq-eqb (get_or ws i 0) 0 e)
 
-  pub wrong_earlier : (j : ℕ) → j < i → i ≤ length ws → get_or ws j 0 ≡ get_or ws i 0 → wrong_at ws i ≡ true
+  pub wrong_else : (get_or ws i 0 ≡ 0 → ⊥) → list_any (λ (w : ℕ). eqb w (get_or ws i 0)) (take i ws) ≡ wrong_at ws i
+  wrong_else some = watched_any (get_or ws i 0) (take i ws) ∙ ap (λ (b : Bool). b || watched (take i ws) (get_or ws i 0)) (sym (ne_eqb (get_or ws i 0) 0 some))
+
+  wrong_earlier : (j : ℕ) → j < i → i ≤ length ws → get_or ws j 0 ≡ get_or ws i 0 → wrong_at ws i ≡ true
   wrong_earlier j h long e =
       let l = length-take-le i ws long in
       or_right (eqb (get_or ws i 0) 0) (watched (take i ws) (get_or ws i 0)) (watched_at (get_or ws i 0) (take i ws) j (omega arith) (get_or-take i ws j 0 h ∙ e))
 
-  pub wrong_not : i ≤ length ws → (get_or ws i 0 ≡ 0 → ⊥) → Absent (get_or ws i 0) ws i → wrong_at ws i ≡ false
-  wrong_not long some none =
-      let l = length-take-le i ws long in
-      or_from (eqb (get_or ws i 0) 0) (watched (take i ws) (get_or ws i 0)) (ne_eqb (get_or ws i 0) 0 some)
-      (watched_not (get_or ws i 0) (take i ws) (λ (j : ℕ) (h : j < length (take i ws)). below j (omega arith)))
-    where
-      below : (j : ℕ) → j < i → get_or (take i ws) j 0 ≡ get_or ws i 0 → ⊥
-      below j h e = none j h (sym (get_or-take i ws j 0 h) ∙ e)
+-- the first wrong index among the n from i on, as it is found
+pub wrong_search : (ws : List ℕ) (n i m : ℕ) (r : Option ℕ) → i + n ≡ m
+    → MatchOption r ((k : ℕ) → i ≤ k → k < m → wrong_at ws k ≡ false) (λ j. (i ≤ j) × (j < m) × (wrong_at ws j ≡ true) × ((k : ℕ) → i ≤ k → k < j → wrong_at ws k ≡ false))
+    → r ≡ wrong_from ws i n
+wrong_search ws zero i m None e h = refl
+wrong_search ws zero i m (Some j) e h = absurd (omega (arith, h.0, h.1))
+wrong_search ws (suc n) i m None e h =
+    let here : wrong_at ws i ≡ false = h i (omega arith) (omega arith) in
+    wrong_search ws n (i + 1) m None (omega arith) (λ k l. h k (omega arith))
+    ∙ ap (λ (b : Bool). cond b (Some i) (wrong_from ws (i + 1) n)) (sym here)
+wrong_search ws (suc n) i m (Some j) e h = go (wrong_at ws i) refl (λ l. wrong_search ws n (i + 1) m (Some j) (omega arith) (omega (arith, l), h.1, h.2, λ k m m'. h.3 k (omega arith) m'))
+  where
+    go : (b : Bool) → wrong_at ws i ≡ b → (i < j → Some j ≡ wrong_from ws (i + 1) n) → Some j ≡ cond b (Some i) (wrong_from ws (i + 1) n)
+    go true e more = ⊎_elim (λ (l : i < j). absurd (true≢false (sym e ∙ h.3 i (omega arith) l))) (λ (l : j ≤ i). let same : j ≡ i = omega (arith, h.0) in ap Some same) (cases_lt i j)
+    go false e more = ⊎_elim more (λ (l : j ≤ i). let same : i ≡ j = omega (arith, h.0) in absurd (true≢false (sym h.2 ∙ ap (wrong_at ws) (sym same) ∙ e))) (cases_lt i j)
 
-  -- the search for the first wrong index
-  step : (n : ℕ) (b : Bool) → i < n → b ≡ wrong_at ws i → wrong_from ws i (n - i) ≡ cond b (Some i) (wrong_from ws (i + 1) (n - (i + 1)))
-  step n b h e =
-      let m : n - i ≡ suc (n - (i + 1)) = omega arith in
-      ap (wrong_from ws i) m ∙ ap (λ (z : Bool). cond z (Some i) (wrong_from ws (i + 1) (n - (i + 1)))) (sym e)
-
-  pub wrong_here : (n : ℕ) → i < n → true ≡ wrong_at ws i → wrong_from ws i (n - i) ≡ Some i
-  wrong_here n h e = step n true h e
-
-  pub wrong_on : (n : ℕ) → i < n → false ≡ wrong_at ws i → wrong_from ws i (n - i) ≡ wrong_from ws (i + 1) (n - (i + 1))
-  wrong_on n h e = step n false h e
-
-  pub wrong_end : (n : ℕ) → n ≤ i → wrong_from ws i (n - i) ≡ None
-  wrong_end n h = let z : n - i ≡ 0 = omega arith in ap (wrong_from ws i) z
+pub ninth : (b : Bool) → then_some {T = ℕ} b 8 ≡ cond b (Some 8) None
+ninth true = refl
+ninth false = refl
 
 -- the place at which a list is refused
 module _ (ws : List ℕ) where
@@ -54,21 +59,9 @@ module _ (ws : List ℕ) where
   unfolding watch_fault
   fault_empty e = ap (λ (z : Bool). cond z (Some 0) (option_or (wrong_from ws 0 (length ws)) (cond (ltb 8 (length ws)) (Some 8) None))) (eq-eqb (length ws) 0 e)
 
-  fault_rest : (length ws ≡ 0 → ⊥) → watch_fault ws ≡ option_or (wrong_from ws 0 (length ws)) (cond (ltb 8 (length ws)) (Some 8) None)
+  pub fault_rest : (length ws ≡ 0 → ⊥) → watch_fault ws ≡ option_or (wrong_from ws 0 (length ws)) (cond (ltb 8 (length ws)) (Some 8) None)
   unfolding watch_fault
   fault_rest e = ap (λ (z : Bool). cond z (Some 0) (option_or (wrong_from ws 0 (length ws)) (cond (ltb 8 (length ws)) (Some 8) None))) (ne_eqb (length ws) 0 e)
-
-  pub fault_wrong : (i : ℕ) → (length ws ≡ 0 → ⊥) → wrong_from ws 0 (length ws) ≡ Some i → watch_fault ws ≡ Some i
-  fault_wrong i h e = fault_rest h ∙ ap (λ (o : Option ℕ). option_or o (cond (ltb 8 (length ws)) (Some 8) None)) e
-
-  fault_right : (length ws ≡ 0 → ⊥) → wrong_from ws 0 (length ws) ≡ None → watch_fault ws ≡ cond (ltb 8 (length ws)) (Some 8) None
-  fault_right h e = fault_rest h ∙ ap (λ (o : Option ℕ). option_or o (cond (ltb 8 (length ws)) (Some 8) None)) e
-
-  pub fault_long : (length ws ≡ 0 → ⊥) → wrong_from ws 0 (length ws) ≡ None → 8 < length ws → watch_fault ws ≡ Some 8
-  fault_long h e l = fault_right h e ∙ ap (λ (z : Bool). cond z (Some 8) None) (lt-ltb 8 (length ws) l)
-
-  pub fault_none : (length ws ≡ 0 → ⊥) → wrong_from ws 0 (length ws) ≡ None → length ws ≤ 8 → watch_fault ws ≡ None
-  fault_none h e l = fault_right h e ∙ ap (λ (z : Bool). cond z (Some 8) None) (le-ltb 8 (length ws) l)
 
   -- a list that isn't refused has at most eight numbers
   pub fault_few : watch_fault ws ≡ None → length ws ≤ 8

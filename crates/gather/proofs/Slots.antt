@@ -1,27 +1,31 @@
 -- A table's slots in their list, and the table that they mean.
-use Rattle.std.proofs.Common.{◌≡◌, ℕ, zero, suc, ◌+◌, ◌<◌, ◌≤◌, true, false, cond, eqb, List, [], ◌∷◌, map, length, get_or, take, set, sym, refl, ap, ◌∙◌, ⊎_elim, arith}
+use Rattle.std.proofs.Common.{◌≡◌, ℕ, zero, suc, ◌<◌, ◌≤◌, Bool, true, false, cond, eqb, ltb, Some, None, List, [], ◌∷◌, map, length, get_or, take, set, sym, refl, ap, ◌∙◌, ⊎_elim, arith}
 use lib.Seq.{map-set_same}
 use lib.ListN.{length-map}
 use Rattle.std.proofs.lemmas.List.{map-set, get_or-map, get_or-take, take-map, length-take-le}
-use Rattle.std.proofs.lemmas.Bool.{cases_lt, eq-eqb, ne_eqb, or_left, or_right, or_from}
+use Rattle.std.proofs.lemmas.Bool.{cases_lt, lt-ltb, eq-eqb, ne_eqb, or_left, or_right, or_from, eqb-true, eqb-false}
 use Rattle.std.proofs.lemmas.Bool.Decides.{nat_tests}
+use Rattle.std.specs.List.{position, position_or_len}
+use Rattle.std.proofs.lemmas.List.Quantifiers.{position-Some}
+use Rattle.std.proofs.lemmas.List.Sums.{fails_before_first}
+use Rattle.std.proofs.lemmas.Option.{none-some}
 use Rattle.gather.specs.Gathering as value
 use Rattle.gather.specs.Gathering.{nothing, settled}
 use Rattle.gather.specs.Arriving.{watched}
 use Rattle.gather.specs.Tables.{table_of}
 use Rattle.gather.specs.declared.slot.Slot.{Slot}
 use Rattle.gather.specs.Model.{model}
-use Rattle.gather.specs.Serving.{Absent, FirstAt}
+
+-- none of the first i numbers is n
+abbrev pub Absent : ℕ → List ℕ → ℕ → Type 0
+Absent n ws i = (j : ℕ) → j < i → get_or ws j 0 ≡ n → ⊥
+
+-- i is the first index that holds n
+abbrev pub FirstAt : ℕ → List ℕ → ℕ → Type 0
+FirstAt n ws i = (get_or ws i 0 ≡ n) × Absent n ws i
 
 abbrev pub numbers : ℕ → List Slot → List ℕ
 numbers u xs = map (λ (s : Slot). s.number) (take u xs)
-
--- the number at an index
-pub number_at : (u : ℕ) (xs : List Slot) (i : ℕ) (d : Slot) → i < u → u ≤ length xs → get_or (numbers u xs) i 0 ≡ (get_or xs i d).number
-number_at u xs i d h long =
-    let l : length (take u xs) ≡ u = length-take-le u xs long in
-    let at : i < length (take u xs) = omega arith in
-    get_or-map (λ (s : Slot). s.number) (take u xs) i d 0 at ∙ ap (λ (s : Slot). s.number) (get_or-take u xs i d h)
 
 pub length_numbers : (u : ℕ) (xs : List Slot) → u ≤ length xs → length (numbers u xs) ≡ u
 length_numbers u xs long = length-map (take u xs) (λ (s : Slot). s.number) ∙ length-take-le u xs long
@@ -35,6 +39,34 @@ watched_at n (w ∷ ws) (suc i) h e = or_right (eqb w n) (watched ws n) (watched
 pub watched_not : (n : ℕ) (ws : List ℕ) → Absent n ws (length ws) → watched ws n ≡ false
 watched_not n [] none = refl
 watched_not n (w ∷ ws) none = or_from (eqb w n) (watched ws n) (ne_eqb w n (none 0 (omega arith))) (watched_not n ws (λ j h. none (suc j) (omega arith)))
+
+-- the first slot with a number stands where the number does
+pub position_numbers : (n : ℕ) (xs : List Slot) → position (λ (s : Slot). eqb s.number n) xs ≡ position (λ (w : ℕ). eqb w n) (map (λ (s : Slot). s.number) xs)
+position_numbers n xs =
+    ap (λ (m : ℕ). cond (ltb (position_or_len (λ (s : Slot). eqb s.number n) xs) m) (Some (position_or_len (λ (s : Slot). eqb s.number n) xs)) None) (sym (length-map xs (λ (s : Slot). s.number)))
+    ∙ ap (λ (k : ℕ). cond (ltb k (length (map (λ (s : Slot). s.number) xs))) (Some k) None) (go xs)
+  where
+    go : (ys : List Slot) → position_or_len (λ (s : Slot). eqb s.number n) ys ≡ position_or_len (λ (w : ℕ). eqb w n) (map (λ (s : Slot). s.number) ys)
+    go [] = refl
+    go (y ∷ ys) = let more = go ys in cc
+
+-- the first index that holds a number, and that none does
+pub found_first : (n : ℕ) (ws : List ℕ) (i : ℕ) → position (λ (w : ℕ). eqb w n) ws ≡ Some i → (i < length ws) × FirstAt n ws i
+found_first n ws i e =
+    let at = position-Some (λ (w : ℕ). eqb w n) ws i 0 e in
+    (at.0, (eqb-true (get_or ws i 0) n at.1, λ j h. eqb-false (get_or ws j 0) n (at.2 j h)))
+
+pub found_none : (n : ℕ) (ws : List ℕ) → position (λ (w : ℕ). eqb w n) ws ≡ None → watched ws n ≡ false
+found_none n ws e = watched_not n ws (⊎_elim some none (cases_lt (position_or_len (λ (w : ℕ). eqb w n) ws) (length ws)))
+  where
+    first : ℕ
+    first = position_or_len (λ (w : ℕ). eqb w n) ws
+
+    some : first < length ws → Absent n ws (length ws)
+    some l = absurd (none-some first (sym e ∙ ap (λ (b : Bool). cond b (Some first) None) (lt-ltb first (length ws) l)))
+
+    none : length ws ≤ first → Absent n ws (length ws)
+    none l j h = eqb-false (get_or ws j 0) n (fails_before_first (λ (w : ℕ). eqb w n) ws j 0 (omega arith))
 
 -- the slot of a number, and the table with that slot changed
 pub table_at : (ws : List ℕ) (ss : List value.Slot) (x w : ℕ) → FirstAt w ws x → x < length ws → x < length ss → table_of ws ss w ≡ get_or ss x nothing
@@ -61,13 +93,6 @@ take_put zero xs i y = refl
 take_put (suc u) [] i y = refl
 take_put (suc u) (x ∷ xs) zero y = refl
 take_put {X} (suc u) (x ∷ xs) (suc i) y = ap (λ (zs : List X). x ∷ zs) (take_put u xs i y)
-
-pub absent_more : (n : ℕ) (ws : List ℕ) (i : ℕ) → Absent n ws i → (get_or ws i 0 ≡ n → ⊥) → Absent n ws (i + 1)
-absent_more n ws i none here j h e =
-    ⊎_elim
-    (λ (l : j < i). none j l e)
-    (λ (g : i ≤ j). let z : j ≡ i = omega arith in here (ap (λ (k : ℕ). get_or ws k 0) (sym z) ∙ e))
-    (cases_lt j i)
 
 -- the numbers stay where a slot changes but for its number
 pub same_numbers : (u : ℕ) (xs : List Slot) (i : ℕ) (d s' : Slot) → s'.number ≡ (get_or xs i d).number → numbers u (set xs i s') ≡ numbers u xs

@@ -1,9 +1,9 @@
 -- What each step of a block does to the numbers of a slot.
-use Rattle.std.specs.Prelude.{◌≡◌, ℕ, ◌+◌, ◌≤◌, Bool, false, cond, List, ◌++◌, map, length, drop, replicate, Some, None, Option, ◌==◌, nat_lt, slice_set}
+use Rattle.std.specs.Prelude.{ℕ, ◌+◌, cond, List, ◌++◌, map, length, drop, replicate, Some, None, Option, ◌==◌, nat_lt, slice_set}
 use Rattle.sending.specs.Sendings.{Block}
 use Rattle.gather.specs.Gathering as value
 use Rattle.gather.specs.Watching.{fits_slot}
-use Rattle.gather.specs.Gathering.{Slot, nothing, kept, full, right, whole, agrees}
+use Rattle.gather.specs.Gathering.{Slot, nothing, kept, full, right, whole}
 use Rattle.gather.specs.declared.slot.Part.{Part}
 use Rattle.gather.specs.declared.slot.State.{State}
 use Rattle.gather.specs.declared.slot.State.TheVariants.{Empty, Gathering}
@@ -26,24 +26,9 @@ abbrev pub noted : ℕ → Part → State → State
 noted k p Empty = Empty
 noted k p (Gathering v l ps) = Gathering v l (slice_set ps k (Some p))
 
--- the last part's number is at most 3
-abbrev pub FewParts : State → Type 0
-FewParts Empty = Unit {0}
-FewParts (Gathering v l ps) = l ≤ 3
-
--- a state has a place for each of four parts
-abbrev pub FourParts : State → Type 0
-FourParts Empty = Unit {0}
-FourParts (Gathering v l ps) = length ps ≡ 4
-
 -- a slot once a block's part is kept
 abbrev pub with_part : ℕ → Block → Slot → Slot
 with_part t b s = record { version = b.version; last = b.last; held = kept t b s }
-
--- a part that is held carries this message CRC
-abbrev pub carries : Option Part → ℕ → Bool
-carries None c = false
-carries (Some p) c = agrees p.check c
 
 -- bytes written at the front of a buffer
 abbrev pub fronted : List ℕ → List ℕ → List ℕ

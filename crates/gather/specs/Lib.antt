@@ -5,3 +5,4 @@ pub mod Watching
 pub mod Model
 pub mod Keeping
 pub mod Serving
+pub mod States

@@ -1,5 +1,5 @@
 -- What a table answers to each call, and what it is afterwards.
-use Rattle.std.specs.Prelude.{◌≡◌, ℕ, zero, suc, ◌+◌, ◌<◌, ◌≤◌, cond, List, length, take, is_some, Some, None, Ok, Err, Option, Result, ◌≢◌, slice_index}
+use Rattle.std.specs.Prelude.{ℕ, zero, suc, ◌+◌, ◌≤◌, cond, List, length, take, is_some, Some, None, Ok, Err, Option, Result}
 use Rattle.refusal.specs.declared.Refusal.{Refusal}
 use Rattle.refusal.specs.declared.Refusal.TheVariants.{WatchList}
 use Rattle.sending.specs.Sendings.{Block}
@@ -85,11 +85,3 @@ parts_held s = counted 4 s.held
 -- how many parts are held for a number, or none where it isn't watched
 abbrev pub held_for : List ℕ → value.Table → ℕ → Option ℕ
 held_for watch table n = cond (watched watch n) (Some (parts_held (table n))) None
-
--- none of the first i numbers is n
-abbrev pub Absent : ℕ → List ℕ → ℕ → Type 0
-Absent n ws i = (j : ℕ) → j < i → slice_index ws j ≢ n
-
--- i is the first index that holds n
-abbrev pub FirstAt : ℕ → List ℕ → ℕ → Type 0
-FirstAt n ws i = (slice_index ws i ≡ n) × Absent n ws i

@@ -20,8 +20,8 @@ impl Table {
     {
         match self.index(block.number) {
             Some(i) => {
-                let slot = &mut self.slots[i];
-                slot.serve(*block, frame, out)
+                let slots = &mut self.slots;
+                slots[i].serve(*block, frame, out)
             }
             None => Arrival::NotWatched,
         }

@@ -1,23 +1,10 @@
 // The question how many parts are held.
-ghost use Rattle.std.specs.Prelude.{◌≡◌, ℕ, []};
-ghost use Rattle.gather.specs.Model.{model, held_in, watching, gathered};
-ghost use Rattle.gather.specs.Serving.{counted, parts_held, held_for};
+ghost use Rattle.std.specs.Prelude.{◌≡◌, ℕ};
+ghost use Rattle.gather.specs.Model.{model, watching, gathered};
+ghost use Rattle.gather.specs.Serving.{parts_held, held_for};
 
-use super::slot::{Part, Slot, State};
+use super::slot::{Slot, State};
 use super::table::Table;
-
-// How many of the parts are held.
-fn count_held(parts: &[Option<Part>; 4]) -> usize
-    ensures { result ≡ counted 4 (held_in parts.now []) }
-{
-    let mut count = 0;
-    for k in 0..4 {
-        if parts[k].is_some() {
-            count += 1;
-        }
-    }
-    count
-}
 
 impl Slot {
     // How many parts the slot holds.
@@ -26,7 +13,7 @@ impl Slot {
     {
         match &self.state {
             State::Empty => 0,
-            State::Gathering { parts, .. } => count_held(parts),
+            State::Gathering { parts, .. } => parts.iter().filter(|part| part.is_some()).count(),
         }
     }
 }
@@ -37,12 +24,7 @@ impl Table {
     pub fn held(&self, number: u8) -> Option<usize>
         ensures answer { result ≡ held_for (watching self.now) (gathered self.now) number }
     {
-        match self.index(number) {
-            Some(i) => {
-                let slot = &self.slots[i];
-                Some(slot.count())
-            }
-            None => None,
-        }
+        let i = self.index(number)?;
+        Some(self.slots[i].count())
     }
 }

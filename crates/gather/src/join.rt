@@ -1,32 +1,18 @@
 // Joining the parts of a slot.
-ghost use Rattle.std.specs.Prelude.{◌≡◌, ℕ, ◌+◌, ◌<◌, ◌≤◌, [], length};
+ghost use Rattle.std.specs.Prelude.{◌≡◌, ℕ, ◌≤◌, length, min, take, ◌||◌, ◌==◌};
 ghost use Rattle.crc.specs.Crc.{crc};
-ghost use Rattle.gather.specs.Gathering.{body_of, full, whole};
-ghost use Rattle.gather.specs.Model.{room, part_in, held_in};
-ghost use Rattle.gather.specs.Keeping.{fronted, carries, verdict, verdict_out};
+ghost use Rattle.gather.specs.Gathering.{bears, full, whole};
+ghost use Rattle.gather.specs.Model.{model, room};
+ghost use Rattle.gather.specs.Keeping.{verdict, verdict_out};
 
-use super::slot::{Arrival, Part};
-use crc::crc32_more;
+use super::joined::Joined;
+use super::slot::{Arrival, Part, Slot, State};
+use crc::crc32;
 
-// The register of the message CRC before the first byte.
-const START: u32 = 0xFFFF_FFFF;
 // The most bytes of a part, and of the last of several.
 pub(crate) const PART_MOST: usize = 51;
 
 pub(crate) const LAST_MOST: usize = 47;
-
-// Whether every part up to the last is held.
-pub(crate) fn complete(parts: &[Option<Part>; 4], last: u8) -> bool
-    requires { last ≤ 3 }
-    ensures { result ≡ full last (held_in parts.now []) }
-{
-    for k in 0..last as usize + 1 {
-        if parts[k].is_none() {
-            return false;
-        }
-    }
-    true
-}
 
 // The most bytes that are kept of part k.
 fn part_most(k: usize) -> usize
@@ -35,78 +21,72 @@ fn part_most(k: usize) -> usize
     if k == 3 { LAST_MOST } else { PART_MOST }
 }
 
-// The bytes of part k, none where it isn't held.
-fn part_body<'a>(part: Option<Part>, k: usize, bytes: &'a [u8; 51]) -> &'a [u8]
-    ensures value { result.now ≡ body_of (part_in k part bytes.now) }
-    ensures short { length result.now ≤ room k }
-{
-    match part {
-        Some(p) => {
-            let size = p.size.min(part_most(k));
-            &bytes[0..size]
+impl Part {
+    // The bytes of part k.
+    fn body<'a>(&self, k: usize, bytes: &'a [u8; 51]) -> &'a [u8]
+        ensures value { result.now ≡ take (min self.now.size (room k)) bytes.now }
+        ensures short { length result.now ≤ room k }
+    {
+        &bytes[..self.size.min(part_most(k))]
+    }
+}
+
+impl Slot {
+    // Whether every part up to the last is held.
+    pub(crate) fn is_full(&self) -> bool
+        ensures { result ≡ full (model self.now).last (model self.now).held }
+    {
+        match &self.state {
+            State::Empty => false,
+            State::Gathering { last, parts, .. } => parts[..=usize::from(*last)]
+                .iter()
+                .all(|part| part.is_some()),
         }
-        None => &bytes[0..0],
     }
-}
 
-// The CRC of the parts up to the last, joined.
-fn parts_crc(parts: &[Option<Part>; 4], bytes: &[[u8; 51]; 4], last: u8) -> u32
-    requires { last ≤ 3 }
-    ensures { result ≡ crc (whole last (held_in parts.now bytes.now)) }
-{
-    let mut register = START;
-    for k in 0..last as usize + 1 {
-        register = crc32_more(register, part_body(parts[k], k, &bytes[k]));
+    // The bytes of the parts up to the last.
+    fn joined(&self) -> Joined
+        ensures { result ≡ whole (model self.now).last (model self.now).held }
+    {
+        let mut joined = Joined::new();
+        if let State::Gathering { last, parts, .. } = &self.state {
+            for (k, (part, bytes)) in parts[..=usize::from(*last)]
+                .iter()
+                .zip(&self.bytes)
+                .enumerate()
+            {
+                if let Some(part) = part {
+                    joined.push(part.body(k, bytes));
+                }
+            }
+        }
+        joined
     }
-    register
-}
 
-// Writes the parts up to the last, joined, at the front of `out`, and answers how many bytes they have.
-fn join_parts(parts: &[Option<Part>; 4], bytes: &[[u8; 51]; 4], last: u8, out: &mut [u8]) -> usize
-    requires few { last ≤ 3 }
-    requires room { 200 ≤ length out.old }
-    ensures answer { result ≡ length (whole last (held_in parts.now bytes.now)) }
-    ensures out { out.new ≡ fronted (whole last (held_in parts.now bytes.now)) out.old }
-{
-    let mut at = 0;
-    for k in 0..last as usize + 1 {
-        let body = part_body(parts[k], k, &bytes[k]);
-        let end = at + body.len();
-        out[at..end].copy_from_slice(body);
-        at = end;
+    // Whether the joined bytes pass the message CRC, which the last of several parts carries.
+    fn passes(&self, joined: &Joined) -> bool
+        ensures { result ≡ ((model self.now).last == 0 || bears ((model self.now).held (model self.now).last) (crc joined.now)) }
+    {
+        match &self.state {
+            State::Empty => true,
+            State::Gathering { last, parts, .. } => *last == 0
+                || parts[usize::from(*last)]
+                    .and_then(|part| part.check)
+                    .is_some_and(|check| check == crc32(joined.bytes())),
+        }
     }
-    at
-}
 
-// Whether the part carries this message CRC.
-fn carries(part: Option<Part>, crc: u32) -> bool
-    ensures { result ≡ carries part crc }
-{
-    match part {
-        Some(p) => match p.check {
-            Some(check) => check == crc,
-            None => false,
-        },
-        None => false,
-    }
-}
-
-// Joins parts that are all held, unless they are several and fail the message CRC.
-pub(crate) fn judge(
-    parts: &[Option<Part>; 4],
-    bytes: &[[u8; 51]; 4],
-    last: u8,
-    out: &mut [u8],
-) -> Arrival
-    requires few { last ≤ 3 }
-    requires room { 200 ≤ length out.old }
-    ensures answer { result ≡ verdict last (held_in parts.now bytes.now) }
-    ensures out { out.new ≡ verdict_out last (held_in parts.now bytes.now) out.old }
-{
-    if last != 0 && !carries(parts[last as usize], parts_crc(parts, bytes, last)) {
-        return Arrival::Faulty;
-    }
-    Arrival::Message {
-        length: join_parts(parts, bytes, last, out),
+    // Joins parts that are all held, unless they are several and fail the message CRC.
+    pub(crate) fn judge(&self, out: &mut [u8; 200]) -> Arrival
+        ensures answer { result ≡ verdict (model self.now).last (model self.now).held }
+        ensures out { out.new ≡ verdict_out (model self.now).last (model self.now).held out.old }
+    {
+        let joined = self.joined();
+        if !self.passes(&joined) {
+            return Arrival::Faulty;
+        }
+        Arrival::Message {
+            length: joined.put(out),
+        }
     }
 }

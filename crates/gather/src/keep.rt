@@ -1,11 +1,11 @@
 // Keeping the part of a block in a slot.
-ghost use Rattle.std.specs.Prelude.{◌≡◌, ℕ, ◌+◌, ◌<◌, ◌≤◌, map, length, take, Some, slice_set};
+ghost use Rattle.std.specs.Prelude.{◌≡◌, ℕ, ◌<◌, map, length, take, Some, slice_set};
 ghost use Rattle.sending.specs.Model.{means};
-ghost use Rattle.gather.specs.Model.{room, model};
-ghost use Rattle.gather.specs.Keeping.{fresh_part, renewed, noted, FewParts, FourParts, with_part};
+ghost use Rattle.gather.specs.Model.{model};
+ghost use Rattle.gather.specs.Keeping.{fresh_part, renewed, noted, with_part};
 
+use super::fitting::Fitting;
 use super::slot::{Part, Slot, State};
-use sending::Block;
 
 // A part is dropped once it is older than this, in frames.
 const AGE_MOST: u64 = 255;
@@ -14,64 +14,53 @@ const AGE_MOST: u64 = 255;
 fn still_fresh(part: Option<Part>, frame: u64) -> Option<Part>
     ensures { result ≡ fresh_part frame part }
 {
-    match part {
-        Some(p) => if p.frame < frame && frame - p.frame > AGE_MOST {
-            None
-        } else {
-            Some(p)
-        },
-        None => None,
-    }
+    part.filter(|held| frame.saturating_sub(held.frame) <= AGE_MOST)
 }
 
 // Drops each part that is too old.
 fn drop_old(parts: &mut [Option<Part>; 4], frame: u64)
     ensures { parts.new ≡ map (fresh_part frame) parts.old }
 {
-    for i in 0..4 {
-        parts[i] = still_fresh(parts[i], frame);
+    for part in parts.iter_mut() {
+        *part = still_fresh(*part, frame);
     }
 }
 
-// Writes the body over the first bytes.
-fn put_front(bytes: &mut [u8; 51], body: &[u8])
-    requires { length body.now ≤ 51 }
-    ensures { take (length body.now) bytes.new ≡ body.now }
-{
-    let size = body.len();
-    bytes[0..size].copy_from_slice(body);
-}
+impl Fitting<'_> {
+    // The place of its part.
+    fn place(&self) -> usize
+        ensures place { result ≡ self.now.block.part }
+        ensures few { result < 4 }
+    {
+        usize::from(self.block.part)
+    }
 
-// Puts a part at place k.
-fn put_part(parts: &mut [Option<Part>; 4], k: usize, part: Part)
-    requires { k < 4 }
-    ensures parts { parts.new ≡ slice_set parts.old k (Some part) }
-    ensures four { length parts.old ≡ 4 }
-{
-    parts[k] = Some(part);
+    // Puts its part among the others, as it is held when it is read at a frame.
+    fn put_part(&self, parts: &mut [Option<Part>; 4], frame: u64)
+        ensures { parts.new ≡ slice_set parts.old self.now.block.part (Some (record { size = length self.now.block.body.now; frame = frame; check = self.now.block.check })) }
+    {
+        parts[self.place()] = Some(Part {
+            size: self.block.body.len(),
+            frame,
+            check: self.block.check,
+        });
+    }
+
+    // Writes its body over the first bytes.
+    fn put_body(&self, bytes: &mut [u8; 51])
+        ensures { take (length self.now.block.body.now) bytes.new ≡ self.now.block.body.now }
+    {
+        let body = self.block.body;
+        bytes[..body.len()].copy_from_slice(body);
+    }
 }
 
 impl State {
-    // Notes part k as held.
-    fn note(&mut self, k: usize, part: Part)
-        requires { k < 4 }
-        ensures state { self.new ≡ noted k part self.old }
-        ensures four { FourParts self.old }
-    {
-        if let State::Gathering { parts, .. } = self {
-            put_part(parts, k, part);
-        }
-    }
-}
-
-impl Slot {
     // Gathers for the block: what is of another version or last number is dropped, and what is too old.
-    fn renew(&mut self, block: Block<'_>, frame: u64)
-        ensures number { self.new.number ≡ self.old.number }
-        ensures state { self.new.state ≡ renewed frame block.entry.version block.entry.last self.old.state }
-        ensures bytes { self.new.bytes ≡ self.old.bytes }
+    fn renew(&mut self, fitting: &Fitting<'_>, frame: u64)
+        ensures { self.new ≡ renewed frame fitting.now.block.version fitting.now.block.last self.old }
     {
-        match (&mut self.state, block) {
+        match (self, fitting.block) {
             (
                 &mut State::Gathering {
                     version,
@@ -88,25 +77,24 @@ impl Slot {
         }
     }
 
-    // Keeps the block's part, once what the block makes stale is dropped.
-    pub(crate) fn keep(&mut self, block: Block<'_>, frame: u64)
-        requires part { block.part ≤ 3 }
-        requires few { block.last ≤ 3 }
-        requires fits { length block.body.now ≤ room block.part }
-        ensures number { self.new.number ≡ self.old.number }
-        ensures few { FewParts self.new.state }
-        ensures parts { model self.new ≡ with_part frame (means block.entry) (model self.old) }
+    // Notes the block's part as held.
+    fn note(&mut self, fitting: &Fitting<'_>, frame: u64)
+        ensures { self.new ≡ noted fitting.now.block.part (record { size = length fitting.now.block.body.now; frame = frame; check = fitting.now.block.check }) self.old }
     {
-        let k = block.part as usize;
-        self.renew(block, frame);
-        self.state.note(
-            k,
-            Part {
-                size: block.body.len(),
-                frame,
-                check: block.check,
-            },
-        );
-        put_front(&mut self.bytes[k], block.body);
+        if let State::Gathering { parts, .. } = self {
+            fitting.put_part(parts, frame);
+        }
+    }
+}
+
+impl Slot {
+    // Keeps the block's part, once what the block makes stale is dropped.
+    pub(crate) fn keep(&mut self, fitting: &Fitting<'_>, frame: u64)
+        ensures number { self.new.number ≡ self.old.number }
+        ensures parts { model self.new ≡ with_part frame (means fitting.now.block) (model self.old) }
+    {
+        self.state.renew(fitting, frame);
+        self.state.note(fitting, frame);
+        fitting.put_body(&mut self.bytes[fitting.place()]);
     }
 }

@@ -4,8 +4,10 @@
 
 mod arrive;
 mod find;
+mod fitting;
 mod held;
 mod join;
+mod joined;
 mod keep;
 mod slot;
 mod table;

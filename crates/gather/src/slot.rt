@@ -1,7 +1,9 @@
 // What is gathered of the blocks of one number.
+ghost use Rattle.std.specs.Prelude.{◌≡◌, ◌≤◌, length};
+ghost use Rattle.gather.specs.States.{last_in, parts_in};
 
 // A part that is held: how many bytes it has, the frame in which it was read, and the message CRC where its block carries it.
-#[derive(Clone, Copy)]
+#[derive(Clone, Copy, PartialEq, Eq, Debug)]
 pub struct Part {
     pub(crate) size: usize,
     pub(crate) frame: u64,
@@ -9,7 +11,8 @@ pub struct Part {
 }
 
 // Nothing is held, or parts of one version and last number.
-#[derive(Clone, Copy)]
+// No Option: a rule of the project wants an enum of numbers, matched in place together with the block that comes.
+#[derive(Clone, Copy, PartialEq, Eq, Debug)]
 pub enum State {
     Empty,
     Gathering {
@@ -20,15 +23,19 @@ pub enum State {
 }
 
 // What is gathered for one watched number. The bytes of part k lie at the front of bytes[k], where the state holds it.
-#[derive(Clone, Copy)]
+// Two arrays and not one of pairs: by the same rule the state holds numbers alone, and the bytes lie beside it.
+// No ==: bytes that are left over from parts dropped mean nothing.
+#[derive(Clone, Copy, Debug)]
 pub struct Slot {
     pub(crate) number: u8,
     pub(crate) state: State,
     pub(crate) bytes: [[u8; 51]; 4],
+    ghost few: { last_in state ≤ 3 },
+    ghost four: { length (parts_in state) ≡ 4 },
 }
 
 // What a block came to.
-#[derive(Clone, Copy)]
+#[derive(Clone, Copy, PartialEq, Eq, Debug)]
 pub enum Arrival {
     // its number isn't watched
     NotWatched,

@@ -4,7 +4,10 @@ ghost use Rattle.std.specs.Prelude.{◌≡◌, ◌≤◌, length};
 use super::slot::Slot;
 
 // The watched numbers, each with its slot. The slots past those in use mean nothing.
-#[derive(Drop)]
+// No ==: slots past those in use, and bytes left over from parts dropped, mean nothing.
+// No Model of watched numbers and what is gathered: a reader promises that a refused offer leaves every field as it was, and
+// such a view would forget the bytes left over.
+#[derive(Debug, Drop)]
 pub struct Table {
     pub(crate) slots: [Slot; 8],
     pub(crate) used: usize,

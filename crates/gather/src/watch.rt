@@ -17,15 +17,7 @@ fn is_wrong(watch: &[u8], at: usize) -> bool
     requires { at < length watch.now }
     ensures { result ≡ wrong_at watch.now at }
 {
-    if watch[at] == 0 {
-        return true;
-    }
-    for i in 0..at {
-        if watch[i] == watch[at] {
-            return true;
-        }
-    }
-    false
+    watch[at] == 0 || watch[..at].contains(&watch[at])
 }
 
 // The place at which a watch list is refused.
@@ -35,15 +27,8 @@ fn fault_of(watch: &[u8]) -> Option<usize>
     if watch.is_empty() {
         return Some(0);
     }
-    for i in 0..watch.len() {
-        if is_wrong(watch, i) {
-            return Some(i);
-        }
-    }
-    if watch.len() > WATCH_MOST {
-        return Some(WATCH_MOST);
-    }
-    None
+    let wrong = (0..watch.len()).find(|at| is_wrong(watch, *at));
+    wrong.or((watch.len() > WATCH_MOST).then_some(WATCH_MOST))
 }
 
 impl Slot {
@@ -76,8 +61,8 @@ impl Table {
         ensures next { gathered result ≡ empty }
     {
         let mut slots = [Slot::new(0); 8];
-        for i in 0..watch.len() {
-            slots[i] = Slot::new(watch[i]);
+        for (at, number) in watch.iter().enumerate() {
+            slots[at] = Slot::new(*number);
         }
         Table {
             slots,
@@ -102,8 +87,7 @@ impl Table {
         ensures next { gathered self.new ≡ empty }
         ensures same { watching self.new ≡ watching self.old }
     {
-        for i in 0..8 {
-            let slot = &mut self.slots[i];
+        for slot in self.slots.iter_mut() {
             slot.clear();
         }
     }

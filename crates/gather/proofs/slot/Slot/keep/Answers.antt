@@ -1,23 +1,30 @@
-use Rattle.std.proofs.Common.{◌≡◌, ℕ, ◌<◌, List, length, refl, ap, ◌∙◌, arith, rules}
+use Rattle.std.proofs.Common.{◌≡◌, ℕ, ◌<◌, length, set, refl, ap, ◌∙◌, arith, rules}
 use Rattle.sending.specs.Model.{means}
 use Rattle.gather.specs.Model.{slot_in}
-use Rattle.gather.specs.Keeping.{with_part}
-use Rattle.gather.proofs.Keeps.{kept_is, few_kept}
+use Rattle.gather.proofs.Keeps.{kept_is, few_kept, four_kept}
 use Rattle.gather.proofs.slot.Slot.keep.Goals as goal
+
+pub invariant_of-self : goal.invariant_of-self
+invariant_of-self c =
+    let b = means c.args.fitting.now.block in
+    let old = c.args.self.now in
+    let part = c.args.fitting.now in
+    record {
+      few = few_kept c.args.frame b old.state _ _ _ part.few c.renew.ensures c.note.ensures;
+      four = four_kept c.args.frame b old.state _ _ _ old.four c.renew.ensures c.note.ensures;
+    }
 
 pub returns : goal.returns
 returns c =
-    let b = means c.args.block in
+    let fitting = c.args.fitting.now in
+    let b = means fitting.block in
     let old = c.args.self.now in
-    let bss = c.renew.new.self.bytes in
-    let t = c.args.frame in
-    let long : length bss ≡ 4 = search rules in
-    let within : b.part < length bss = omega (arith, c.requires.part) in
-    let four : b.part < 4 = omega (arith, c.requires.part) in
+    let long : length old.bytes ≡ 4 = search rules in
+    let within : b.part < length old.bytes = omega (arith, fitting.part) in
+    let four : b.part < 4 = omega (arith, fitting.part) in
     record {
-      number = c.renew.ensures.number;
-      few = few_kept t b old.state _ _ _ c.requires.few c.renew.ensures.state c.note.ensures.state;
+      number = refl;
       parts =
-          kept_is t b bss old.state _ _ _ _ within four refl c.requires.fits c.put_front.ensures c.renew.ensures.state c.note.ensures.four c.note.ensures.state
-          ∙ ap (λ (z : List (List ℕ)). with_part t b (slot_in old.state z)) c.renew.ensures.bytes;
+          ap (λ (k : ℕ). slot_in c.note.new.self (set old.bytes k c.put_body.new.bytes)) c.place.ensures.place
+          ∙ kept_is c.args.frame b old.bytes old.state c.renew.new.self c.note.new.self _ c.put_body.new.bytes within four refl fitting.fits c.put_body.ensures c.renew.ensures old.four c.note.ensures;
     }

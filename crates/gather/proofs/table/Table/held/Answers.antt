@@ -1,28 +1,25 @@
-use Rattle.std.proofs.Common.{◌≡◌, ℕ, ◌<◌, ◌≤◌, false, length, Some, ap, ◌∙◌, arith}
-use Rattle.gather.specs.Arriving.{watched}
+use Rattle.std.proofs.Common.{◌<◌, ◌≤◌, length, Some, sym, ap, ◌∙◌, arith}
 use Rattle.gather.specs.Model.{watching, gathered}
-use Rattle.gather.proofs.Slots.{length_numbers, watched_not, found_slot, is_watched}
+use Rattle.gather.proofs.Slots.{length_numbers, found_first, found_none, found_slot, is_watched}
 use Rattle.gather.proofs.Counts.{held_watched, held_absent}
 use Rattle.gather.proofs.table.Table.held.Goals as goal
 
-pub returns-in-Some : goal.returns-in-Some
-returns-in-Some c =
+pub returns-in_err-i : goal.returns-in_err-i
+returns-in_err-i c =
     let self = c.args.self.now in
-    let at = c.in-Some.ensures in
-    let n = c.args.number in
-    let long : self.used ≤ length self.slots = omega (arith, self.long, self.few) in
-    record {
-      answer =
-          ap Some c.count.ensures
-          ∙ held_watched (watching self) (gathered self) n _
-          (is_watched self.used self.slots c.in-Some.i n at.0 long at.1)
-          (found_slot self.used self.slots c.in-Some.i n at.0 long at.1 _);
-    }
+    let none = found_none c.args.number (watching self) (sym c.index.ensures ∙ c.in_err-i.was) in
+    record { answer = c.from_residual.ensures ∙ held_absent (watching self) (gathered self) c.args.number none }
 
-pub returns-in-None : goal.returns-in-None
-returns-in-None c =
+pub returns : goal.returns
+returns c =
     let self = c.args.self.now in
-    let long : self.used ≤ length self.slots = omega (arith, self.long, self.few) in
-    let l = length_numbers self.used self.slots long in
-    let is : watched (watching self) c.args.number ≡ false = watched_not c.args.number (watching self) (λ (j : ℕ) (h : j < length (watching self)). c.in-None.ensures j (omega arith)) in
-    record { answer = held_absent (watching self) (gathered self) c.args.number is }
+    let u = self.used in
+    let xs = self.slots in
+    let n = c.args.number in
+    let i = c.in_ok-i.i in
+    let long : u ≤ length xs = omega (arith, self.long, self.few) in
+    let at = found_first n (watching self) i (sym c.index.ensures ∙ c.in_ok-i.was) in
+    let within : i < u = omega (arith, at.0, length_numbers u xs long) in
+    record {
+      answer = ap Some c.count.ensures ∙ held_watched (watching self) (gathered self) n _ (is_watched u xs i n within long at.1) (found_slot u xs i n within long at.1 _);
+    }

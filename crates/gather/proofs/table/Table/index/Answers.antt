@@ -1,19 +1,12 @@
-use Rattle.std.proofs.Common.{ℕ, ◌<◌, ◌≤◌, length, sym, ◌∙◌, arith}
-use Rattle.gather.proofs.Slots.{number_at, absent_more}
+use Rattle.std.proofs.Common.{eqb, take, ◌∙◌, rules, tests}
+use Rattle.std.proofs.lemmas.Iterator.{YieldsList-from_slice}
+use Rattle.std.proofs.lemmas.Iterator.Search.{position_from_yields_List}
+use Rattle.gather.specs.declared.slot.Slot.{Slot}
+use Rattle.gather.proofs.Slots.{position_numbers}
 use Rattle.gather.proofs.table.Table.index.Goals as goal
 
-pub returns-then-self-i : goal.returns-then-self-i
-returns-then-self-i c =
-    let t = c.args.self.now in
-    let long : t.used ≤ length t.slots = omega (arith, t.long, t.few) in
-    (c.loop-i-test.true, (number_at t.used t.slots c.loop-i.i _ c.loop-i-test.true long ∙ c.if-self-i.true, c.loop-i.invariant))
-
-pub loop-i-preserved : goal.loop-i-preserved
-loop-i-preserved c =
-    let t = c.args.self.now in
-    let long : t.used ≤ length t.slots = omega (arith, t.long, t.few) in
-    let at = number_at t.used t.slots c.loop-i.i _ c.loop-i-test.true long in
-    absent_more c.args.number _ c.loop-i.i c.loop-i.invariant (λ e. c.if-self-i.false (sym at ∙ e))
-
 pub returns : goal.returns
-returns c = λ (j : ℕ) (h : j < c.args.self.now.used). c.loop-i.invariant j (omega (arith, c.loop-i-test.false))
+returns c =
+    let self = c.args.self.now in
+    position_from_yields_List (λ (s : Slot). eqb s.number c.args.number) _ _ c.position.result c.position.ensures.ran (YieldsList-from_slice (take self.used self.slots) (search rules)) (λ x b q k. search (rules, tests))
+    ∙ position_numbers c.args.number (take self.used self.slots)

@@ -4,8 +4,8 @@ use Rattle.gather.specs.Model.{model}
 use Rattle.gather.proofs.Slots.{numbers}
 use Rattle.gather.proofs.table.Table.of.Given as goal
 
-abbrev pub invariant-loop-i : goal.invariant-loop-i
-invariant-loop-i l =
-    (numbers l.i l.slots ≡ take l.i l.watch)
-    × (take l.i (map model l.slots) ≡ replicate l.i nothing)
+abbrev pub invariant-loop-at : goal.invariant-loop-at
+invariant-loop-at l =
+    (numbers l.at l.slots ≡ take l.at l.watch)
+    × (take l.at (map model l.slots) ≡ replicate l.at nothing)
     × (length l.slots ≡ 8)
