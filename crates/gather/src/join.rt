@@ -8,11 +8,7 @@ ghost use Rattle.gather.specs.Keeping.{verdict, verdict_out};
 use super::joined::Joined;
 use super::slot::{Arrival, Part, Slot, State};
 use crc::crc32;
-
-// The most bytes of a part, and of the last of several.
-pub(crate) const PART_MOST: usize = 51;
-
-pub(crate) const LAST_MOST: usize = 47;
+use sending::{LAST_MOST, PART_MOST};
 
 // The most bytes that are kept of part k.
 fn part_most(k: usize) -> usize

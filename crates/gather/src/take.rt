@@ -6,12 +6,8 @@ ghost use Rattle.gather.specs.Watching.{fits_slot};
 ghost use Rattle.gather.specs.Keeping.{ended, ended_out, emptied, served, served_out, served_slot};
 
 use super::fitting::Fitting;
-use super::join::{LAST_MOST, PART_MOST};
 use super::slot::{Arrival, Slot, State};
-use sending::Block;
-
-// The number of the last of four parts.
-const LAST_PART: u8 = 3;
+use sending::{Block, LAST_MOST, PART_MOST, PARTS_MOST};
 
 impl<'a> Fitting<'a> {
     // The block, if it can be gathered.
@@ -25,7 +21,10 @@ impl<'a> Fitting<'a> {
         } else {
             PART_MOST
         };
-        if block.part <= block.last && block.last <= LAST_PART && block.body.len() <= most {
+        if block.part <= block.last
+            && usize::from(block.last) < PARTS_MOST
+            && block.body.len() <= most
+        {
             Some(Fitting { block })
         } else {
             None
