@@ -1,6 +1,6 @@
 pub mod Writings
 pub mod Rows
-pub mod Ahead
-pub mod Backs
+pub mod Ones
 pub mod Openings
-pub mod Begins
+pub mod Backs
+pub mod Bytewise

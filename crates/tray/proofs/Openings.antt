@@ -1,10 +1,12 @@
 -- The tests of a whole tray, one after another.
-use Rattle.std.proofs.Common.{◌≡◌, ℕ, ◌+◌, ◌*◌, false, List, get_or, drop, is_some, Some, None, Err, Option, sym, refl, ap, ◌∙◌, arith}
+use Rattle.std.proofs.Common.{◌≡◌, ℕ, zero, suc, ◌+◌, ◌-◌, ◌*◌, ◌≤◌, false, List, get_or, drop, is_some, Some, None, Ok, Err, Option, Result, sym, refl, ap, ◌∙◌, arith}
+use Rattle.std.proofs.lemmas.Bool.Decides.{nat_tests}
 use Rattle.refusal.specs.declared.Refusal.{Refusal}
 use Rattle.refusal.specs.declared.Refusal.TheVariants.{Tray}
-use Rattle.buffers.specs.Places.{or_else, unless}
-use Rattle.buffers.proofs.Steps.{skip, stop, both_none}
-use Rattle.tray.specs.Reading.{messages_fault, messages_end, faults_fault, message_count, section_place, fault_count, end_place, count_fault, section_fault, rest_fault, tray_fault}
+use Rattle.buffers.specs.Places.{or_else, unless, told}
+use Rattle.buffers.proofs.Steps.{skip, stop, both_none, clear}
+use Rattle.tray.specs.Rows.{byte_fault, row_end}
+use Rattle.tray.specs.Reading.{fault_size, messages_fault, messages_end, faults_fault, message_count, section_place, fault_count, end_place, count_fault, section_fault, rest_fault, tray_fault}
 
 pub none_from : (o : Option ℕ) → is_some o ≡ false → o ≡ None
 none_from None h = refl
@@ -13,15 +15,48 @@ none_from (Some p) h = let z : ◌≡◌ {A = ℕ} 0 1 = cc in absurd (omega ari
 pub none_to : (o : Option ℕ) → o ≡ None → is_some o ≡ false
 none_to o h = ap is_some h
 
--- a refusal is the same whatever the value would be
-pub same_refusal : {A B : Type 0} (o : Option ℕ) (x : A) (y : B) (e : Refusal) → Err e ≡ unless Tray o x → Err e ≡ unless Tray o y
-same_refusal (Some p) x y e h = let b : e ≡ Tray p = cc in ap Err b
-same_refusal None x y e h = let z : ◌≡◌ {A = ℕ} 0 1 = cc in absurd (omega arith)
+-- a part's refusal is sent back as it is, where the whole fails at the part's place
+pub kept : {A B : Type 0} (r : Result A Refusal) (e why : Refusal) (o q : Option ℕ) (x : B) (y : A) → r ≡ Err e → e ≡ why → Err why ≡ unless Tray o x → ((p : ℕ) → o ≡ Some p → q ≡ Some p) → r ≡ unless Tray q y
+kept r e why (Some p) q x y h k u w =
+    let b : why ≡ Tray p = cc in
+    h ∙ ap Err (k ∙ b) ∙ sym (ap (λ t. unless Tray t y) (w p refl))
+kept r e why None q x y h k u w = let z : ◌≡◌ {A = ℕ} 0 1 = cc in absurd (omega arith)
 
--- and tells that a place is wrong
-pub some_wrong : {A : Type 0} (o : Option ℕ) (x : A) (e : Refusal) → Err e ≡ unless Tray o x → (p : ℕ) × (o ≡ Some p)
-some_wrong (Some p) x e h = (p, refl)
-some_wrong None x e h = let z : ◌≡◌ {A = ℕ} 0 1 = cc in absurd (omega arith)
+-- what is told where nothing is wrong
+pub accepted : {A B : Type 0} (f : A → B) (r : Result A Refusal) (o : Option ℕ) (x : B) → o ≡ None → told f r ≡ unless Tray o x → (y : A) × (r ≡ Ok y) × (f y ≡ x)
+accepted {B = B} f (Ok y) o x none is = let e : ◌≡◌ {A = Result B Refusal} (Ok (f y)) (Ok x) = is ∙ ap (λ t. unless Tray t x) none in (y, refl, cc)
+accepted f (Err e) o x none is = let e : Err e ≡ Ok x = is ∙ ap (λ t. unless Tray t x) none in let z : ◌≡◌ {A = ℕ} 0 1 = cc in absurd (omega arith)
+
+-- where n faults end
+pub faults_end : (n p : ℕ) (bs : List ℕ) → row_end fault_size n p bs ≡ p + 4 * n
+unfolding row_end
+faults_end zero p bs = omega arith
+faults_end (suc n) p bs = faults_end n (p + 4) (drop 4 bs) ∙ omega arith
+
+-- the tests of the two counts
+pub count_test : (t : List ℕ) → byte_fault 0 8 0 t ≡ count_fault t
+count_test t = grind (arith, nat_tests)
+
+pub section_test : (n p : ℕ) (t : List ℕ) → n ≤ 8 → byte_fault 0 (9 - n) p t ≡ section_fault n p t
+section_test n p t few = grind (arith, nat_tests)
+
+-- what each test tells, once it is passed
+pub counted : (t : List ℕ) (n : ℕ) → Ok n ≡ unless Tray (byte_fault 0 8 0 t) (get_or t 0 0) → (n ≡ message_count t) × (count_fault t ≡ None) × (n ≤ 8)
+counted t n h =
+    let a = clear Tray (byte_fault 0 8 0 t) (get_or t 0 0) n h in
+    let none = a.0 in
+    let is = a.1 in
+    (a.1, sym (count_test t) ∙ a.0, grind (arith, nat_tests))
+
+pub told_faults : (t : List ℕ) (n q k : ℕ) → n ≤ 8 → Ok k ≡ unless Tray (byte_fault 0 (9 - n) q t) (get_or t q 0) → (k ≡ get_or t q 0) × (section_fault n q t ≡ None)
+told_faults t n q k few h =
+    let a = clear Tray (byte_fault 0 (9 - n) q t) (get_or t q 0) k h in
+    (a.1, sym (section_test n q t few) ∙ a.0)
+
+pub ended : (k q e : ℕ) (bs : List ℕ) → Ok e ≡ unless Tray (faults_fault k (q + 1) bs) (row_end fault_size k (q + 1) bs) → (e ≡ q + 1 + 4 * k) × (faults_fault k (q + 1) bs ≡ None)
+ended k q e bs h =
+    let a = clear Tray (faults_fault k (q + 1) bs) (row_end fault_size k (q + 1) bs) e h in
+    (a.1 ∙ faults_end k (q + 1) bs, a.0)
 
 -- the tests, with what each has read
 pub opened : (t : List ℕ) (n q k : ℕ) → n ≡ message_count t → q ≡ messages_end n 1 (drop 1 t) → k ≡ get_or t q 0 → tray_fault t ≡ or_else (count_fault t) (or_else (messages_fault n 1 (drop 1 t)) (or_else (section_fault n q t) (or_else (faults_fault k (q + 1) (drop (q + 1) t)) (rest_fault (q + 1 + 4 * k) t))))

@@ -1,5 +1,10 @@
 pub mod Trays
+pub mod Causes
+pub mod Said
+pub mod Rows
 pub mod Reading
+pub mod Entries
+pub mod Steps
 pub mod Model
 pub mod Writing
 pub mod Laws

@@ -1,9 +1,11 @@
 -- Reading a tray: its first wrong byte, or its entries.
-use Rattle.std.specs.Prelude.{ℕ, zero, suc, ◌+◌, ◌*◌, cond, ◌||◌, List, [], ◌∷◌, ◌++◌, length, take, drop, Some, None, Option, ◌==◌, nat_lt, slice_index}
+use Rattle.std.specs.Prelude.{ℕ, ◌+◌, ◌*◌, cond, ◌||◌, List, [], ◌++◌, length, take, drop, Some, None, Option, ◌==◌, nat_lt, slice_index}
 use Rattle.std.specs.List.{flat_map}
-use Rattle.buffers.specs.Places.{or_else, shifted}
+use Rattle.buffers.specs.Places.{or_else}
 use Rattle.sending.specs.Sendings.{Message}
-use Rattle.tray.specs.Trays.{Fault, message_bytes}
+use Rattle.tray.specs.Trays.{Fault, message_bytes, fault_bytes}
+use Rattle.tray.specs.Causes.{most_cause}
+use Rattle.tray.specs.Rows.{row_fault, row_end, row_of, row_items}
 
 -- ---- one entry, at the front of some bytes
 -- how many bytes the message takes, by its length byte
@@ -17,10 +19,6 @@ message_fault bs =
     (cond (nat_lt (length bs) 2 || nat_lt 15 (slice_index bs 1)) (Some 1)
     (cond (nat_lt (length bs) 3 || nat_lt 200 (slice_index bs 2)) (Some 2)
     (cond (nat_lt (length bs) (message_size bs)) (Some (length bs)) None)))
-
--- the largest cause of a layer: a block has four, a message one
-abbrev pub most_cause : ℕ → ℕ
-most_cause layer = cond (layer == 1) 4 1
 
 -- the first wrong byte of the fault: layer, cause, number byte, place, or the end where a byte lacks
 unfoldable pub fault_fault : List ℕ → Option ℕ
@@ -40,30 +38,28 @@ fault_of bs = record { layer = slice_index bs 0; cause = slice_index bs 1; numbe
 
 -- ---- entries in a row, in bytes that stand at place p of the tray
 -- the first wrong place of n messages
-unfoldable pub messages_fault : ℕ → ℕ → List ℕ → Option ℕ
-messages_fault zero p bs = None
-messages_fault (suc n) p bs =
-    or_else (shifted p (message_fault bs)) (messages_fault n (p + message_size bs) (drop (message_size bs) bs))
+abbrev pub messages_fault : ℕ → ℕ → List ℕ → Option ℕ
+messages_fault = row_fault message_fault message_size
 
 -- the place where n messages end
-unfoldable pub messages_end : ℕ → ℕ → List ℕ → ℕ
-messages_end zero p bs = p
-messages_end (suc n) p bs = messages_end n (p + message_size bs) (drop (message_size bs) bs)
+abbrev pub messages_end : ℕ → ℕ → List ℕ → ℕ
+messages_end = row_end message_size
 
 -- the n messages
-unfoldable pub messages_of : ℕ → List ℕ → List Message
-messages_of zero bs = []
-messages_of (suc n) bs = message_of bs ∷ messages_of n (drop (message_size bs) bs)
+abbrev pub messages_of : ℕ → List ℕ → List Message
+messages_of = row_of message_of message_size
+
+-- how many bytes a fault takes
+abbrev pub fault_size : List ℕ → ℕ
+fault_size bs = 4
 
 -- the first wrong place of n faults
-unfoldable pub faults_fault : ℕ → ℕ → List ℕ → Option ℕ
-faults_fault zero p bs = None
-faults_fault (suc n) p bs = or_else (shifted p (fault_fault bs)) (faults_fault n (p + 4) (drop 4 bs))
+abbrev pub faults_fault : ℕ → ℕ → List ℕ → Option ℕ
+faults_fault = row_fault fault_fault fault_size
 
 -- the n faults
-unfoldable pub faults_of : ℕ → List ℕ → List Fault
-faults_of zero bs = []
-faults_of (suc n) bs = fault_of bs ∷ faults_of n (drop 4 bs)
+abbrev pub faults_of : ℕ → List ℕ → List Fault
+faults_of = row_of fault_of fault_size
 
 -- ---- a whole tray
 -- the count of its messages
@@ -109,13 +105,11 @@ pub data Item : Type 0 where
 
 -- messages in a row from place p on
 abbrev pub message_items : ℕ → List Message → List Item
-message_items p [] = []
-message_items p (m ∷ ms) = message p m ∷ message_items (p + length (message_bytes m)) ms
+message_items = row_items message message_bytes
 
 -- faults in a row from place p on
 abbrev pub fault_items : ℕ → List Fault → List Item
-fault_items p [] = []
-fault_items p (f ∷ fs) = fault p f ∷ fault_items (p + 4) fs
+fault_items = row_items fault fault_bytes
 
 -- the entries of a tray of these messages and faults: the faults stand behind the second count
 abbrev pub tray_items : List Message → List Fault → List Item

@@ -1,7 +1,7 @@
 -- What writing into a tray answers, and what it leaves there.
 use Rattle.std.specs.Prelude.{◌≡◌, ℕ, ◌+◌, ◌≤◌, Bool, cond, ◌||◌, List, [], ◌∷◌, ◌++◌, length, drop, Some, None, Option, ◌==◌, nat_lt}
 use Rattle.std.specs.List.{flat_map}
-use Rattle.buffers.specs.Laid.{laid}
+use Rattle.buffers.specs.Laid.{laid, laying, laid_or_not}
 use Rattle.sending.specs.Sendings.{Message}
 use Rattle.tray.specs.Trays.{Fault, message_bytes, fault_bytes, fault_section, tray_bytes}
 
@@ -26,20 +26,20 @@ unfoldable pub message_put : Message → ℕ → List ℕ → List ℕ
 message_put m at t = cond (message_unfit m at (length t)) t (laid t at (message_bytes m))
 
 -- what writing one fault answers: where it ends
-unfoldable pub fault_end : Fault → ℕ → ℕ → Option ℕ
-fault_end f at n = end_of (no_room at (fault_bytes f) n) at (fault_bytes f)
+abbrev pub fault_end : Fault → ℕ → ℕ → Option ℕ
+fault_end f at n = laying at (fault_bytes f) n
 
 -- what it leaves in the tray
-unfoldable pub fault_put : Fault → ℕ → List ℕ → List ℕ
-fault_put f at t = cond (no_room at (fault_bytes f) (length t)) t (laid t at (fault_bytes f))
+abbrev pub fault_put : Fault → ℕ → List ℕ → List ℕ
+fault_put f at t = laid_or_not at (fault_bytes f) t
 
 -- what writing the section of faults answers: where it ends
-unfoldable pub section_end : List Fault → ℕ → ℕ → Option ℕ
-section_end fs at n = end_of (no_room at (fault_section fs) n) at (fault_section fs)
+abbrev pub section_end : List Fault → ℕ → ℕ → Option ℕ
+section_end fs at n = laying at (fault_section fs) n
 
 -- what it leaves in the tray
-unfoldable pub section_put : List Fault → ℕ → List ℕ → List ℕ
-section_put fs at t = cond (no_room at (fault_section fs) (length t)) t (laid t at (fault_section fs))
+abbrev pub section_put : List Fault → ℕ → List ℕ → List ℕ
+section_put fs at t = laid_or_not at (fault_section fs) t
 
 -- a tray that isn't finished: the section would stand on the first count, or there is no room
 abbrev pub finish_unfit : List Fault → ℕ → ℕ → Bool

@@ -1,5 +1,11 @@
 // An entry of a tray, as a part of it. Its place is the index of its first byte.
-#[derive(Clone, Copy)]
+ghost use Rattle.std.specs.Prelude.{◌≡◌, ◌<◌, ◌^◌};
+ghost use Rattle.tray.specs.Entries.{entry_end};
+
+use super::cause::Cause;
+use super::limits::{FAULT, HEAD};
+
+#[derive(Clone, Copy, PartialEq, Eq, Debug)]
 pub enum Entry<'a> {
     Message {
         place: usize,
@@ -10,9 +16,21 @@ pub enum Entry<'a> {
     // at is the block's place in its payload
     Fault {
         place: usize,
-        layer: u8,
-        cause: u8,
+        cause: Cause,
         number: u8,
         at: u8,
     },
+}
+
+impl Entry<'_> {
+    // The place behind it.
+    pub(crate) fn end(&self) -> usize
+        requires fits { entry_end self.now < 2 ^ 64 }
+        ensures { result ≡ entry_end self.now }
+    {
+        match *self {
+            Entry::Message { place, bytes, .. } => place + (HEAD + bytes.len()),
+            Entry::Fault { place, .. } => place + FAULT,
+        }
+    }
 }

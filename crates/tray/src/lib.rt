@@ -1,16 +1,18 @@
 // The tray in which an offer's messages and faults are handed over: its bytes, writing them and reading them back.
-// This crate knows nothing of lines, of payloads or of how messages come about.
+// This crate knows nothing of lines, nor of how messages come about, and of payloads only why a block in one is not read.
 #![tactic(auto)]
 
+mod cause;
 mod entry;
 mod fault;
 mod limits;
-mod list;
+mod open;
 mod put;
 mod read;
+mod row;
 mod tray;
-mod walk;
 
+pub use cause::Cause;
 pub use entry::Entry;
 pub use fault::{Fault, Faults};
 pub use limits::TRAY_LEAST;

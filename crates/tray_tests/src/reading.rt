@@ -1,8 +1,7 @@
 // Trays read: each wrong byte once, and a right tray entry by entry.
 use refusal::Refusal;
 use std::process::Abort;
-use std::test::Fail;
-use tray::{Entries, Entry, Tray};
+use tray::{Cause, Entry, Tray};
 
 // One message of two bytes, then a fault of each layer.
 pub(crate) fn right() -> [u8; 15] {
@@ -11,10 +10,7 @@ pub(crate) fn right() -> [u8; 15] {
 
 // Why these bytes are no tray.
 fn wrong(bytes: &[u8]) -> Option<Refusal> {
-    match Tray::open(bytes) {
-        Ok(_) => None,
-        Err(refusal) => Some(refusal),
-    }
+    Tray::open(bytes).err()
 }
 
 // The right tray with another byte at a place is refused there.
@@ -37,11 +33,7 @@ fn wrong_bytes(rt: HostRuntime) {
         (7, 0),
         (7, 3),
         (8, 0),
-    ] {
-        wrong_at(&rt, at, byte);
-    }
-    for (at, byte) in [
-        (8usize, 5u8),
+        (8, 5),
         (9, 0),
         (10, 1),
         (10, 60),
@@ -65,58 +57,37 @@ fn bytes_lacking_or_left_over(rt: HostRuntime) {
     assert_eq!(rt; wrong(&[0u8; 1630]), Some(Refusal::Tray(2)));
 }
 
-// The next entry as numbers: its place, then its fields; of a message the length and the first byte.
-fn told(entries: &mut Entries) -> [usize; 5] {
-    match entries.next() {
-        Some(
-            Entry::Message {
-                place,
-                number,
-                version,
-                bytes,
-            },
-        ) => {
-            let first = if bytes.is_empty() {
-                0
-            } else {
-                bytes[0] as usize
-            };
-            [place, number as usize, version as usize, bytes.len(), first]
-        }
-        Some(
-            Entry::Fault {
-                place,
-                layer,
-                cause,
-                number,
-                at,
-            },
-        ) => [
-            place,
-            layer as usize,
-            cause as usize,
-            number as usize,
-            at as usize,
-        ],
-        None => [0; 5],
-    }
-}
-
 #[test]
-fn entries_in_order(rt: HostRuntime) -> Result<(), Fail> {
+fn entries_in_order(rt: HostRuntime) -> Result<(), Refusal> {
     let bytes = right();
-    match Tray::open(&bytes) {
-        Ok(tray) => {
-            let mut entries = tray.entries();
-            assert_eq!(rt; told(&mut entries), [1, 5, 15, 2, 0xab]);
-            assert_eq!(rt; told(&mut entries), [7, 1, 4, 9, 2]);
-            assert_eq!(rt; told(&mut entries), [11, 2, 1, 5, 59]);
-            assert_eq!(rt; told(&mut entries), [0; 5]);
-            Ok(())
-        }
-        Err(refusal) => {
-            assert_eq!(rt; refusal, Refusal::Tray(0));
-            Ok(())
-        },
-    }
+    let mut entries = Tray::open(&bytes)?.entries();
+    assert_eq!(rt;
+        entries.next(),
+        Some(Entry::Message {
+            place: 1,
+            number: 5,
+            version: 15,
+            bytes: &[0xab, 0xcd],
+        },)
+    );
+    assert_eq!(rt;
+        entries.next(),
+        Some(Entry::Fault {
+            place: 7,
+            cause: Cause::Block(walk::Cause::Short),
+            number: 9,
+            at: 2,
+        },)
+    );
+    assert_eq!(rt;
+        entries.next(),
+        Some(Entry::Fault {
+            place: 11,
+            cause: Cause::Message,
+            number: 5,
+            at: 59,
+        },)
+    );
+    assert_eq!(rt; entries.next(), None);
+    Ok(())
 }
