@@ -1,3 +1,4 @@
 pub mod Parts
+pub mod Head
 pub mod Laws
 pub mod Padding

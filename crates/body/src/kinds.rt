@@ -19,7 +19,7 @@ use super::fields::time_at;
 use super::kind::{Format, Kind};
 use super::layout::TIME_SIZE;
 use super::message::{ContentId, Time};
-use super::numbers::{CONTENT_ID, PRESENTATION_TIME};
+use super::numbers::{KindName, kind_of};
 use super::reading::read;
 use refusal::Refusal;
 
@@ -46,12 +46,11 @@ impl Format for ContentIds {
     ghost every = { λ m b w. round is_alphanumeric w.reserved w.fitting m w.right ∙ ap (Reading.reading (content_id_fault is_alphanumeric) content_id_of) (sym w.written) };
 
     fn takes(number: u8) -> bool {
-        number == CONTENT_ID
+        kind_of(number) == Some(KindName::ContentId)
     }
 
     fn check(body: &[u8]) -> Result<(), Refusal> {
-        let _message = read(body)?;
-        Ok(())
+        read(body).map(|_| ())
     }
 }
 
@@ -88,12 +87,11 @@ impl Format for PresentationTimes {
     ghost every = { λ m b w. presentation_round w.reserved m w.right ∙ ap (Reading.reading presentation_fault presentation_of) (sym w.written) };
 
     fn takes(number: u8) -> bool {
-        number == PRESENTATION_TIME
+        kind_of(number) == Some(KindName::PresentationTime)
     }
 
     fn check(body: &[u8]) -> Result<(), Refusal> {
-        let _time = <PresentationTimes as Kind<'_>>::read(body)?;
-        Ok(())
+        <PresentationTimes as Kind<'_>>::read(body).map(|_| ())
     }
 }
 
@@ -134,15 +132,11 @@ impl Format for PlainBytes {
     ghost every = { λ m b w. read_plain m b w };
 
     fn takes(number: u8) -> bool {
-        match number {
-            0 | CONTENT_ID | PRESENTATION_TIME => false,
-            _ => true,
-        }
+        kind_of(number) == Some(KindName::Plain)
     }
 
     fn check(body: &[u8]) -> Result<(), Refusal> {
-        let _bytes = <PlainBytes as Kind<'_>>::read(body)?;
-        Ok(())
+        <PlainBytes as Kind<'_>>::read(body).map(|_| ())
     }
 }
 

@@ -10,11 +10,11 @@ pub const TIME_SIZE: usize = 6;
 // From a time's first byte to the one that holds the first bit of its milliseconds.
 pub const MILLISECONDS_OFFSET: usize = 4;
 
-// What the high part of milliseconds can hold: two of the ten bits lie in their first byte.
-pub const MILLISECONDS_HIGH: u16 = 4;
+// What ten bits can hold: milliseconds, a major and a minor number lie in so many.
+pub const TEN_BITS: u32 = 1024;
 
-// The six reserved bits before milliseconds, as ones.
-pub const TIME_ONES: u16 = 252;
+// The six reserved bits before the ten of milliseconds, as ones.
+pub const TIME_ONES: u16 = 0xfc00;
 
 // A channel: BSID in two bytes, then four reserved bits, major and minor number in three.
 pub const CHANNEL_SIZE: usize = 5;
@@ -25,20 +25,11 @@ pub const MAJOR_OFFSET: usize = 2;
 // From a channel's first byte to the one that holds the first bit of its minor number.
 pub const MINOR_OFFSET: usize = 3;
 
-// What the high part of a major number can hold: four of the ten bits lie in its first byte.
-pub const MAJOR_HIGH: u16 = 16;
-
-// What the low part of a major number can hold: the other six bits.
-pub const MAJOR_LOW: u16 = 64;
-
-// What the high part of a minor number can hold: two of the ten bits lie in its first byte.
-pub const MINOR_HIGH: u16 = 4;
-
 // The largest major or minor number.
 pub const CHANNEL_NUMBER_MOST: u16 = 1023;
 
-// The four reserved bits before the major number, as ones.
-pub const CHANNEL_ONES: u16 = 240;
+// The four reserved bits before the twenty of major and minor number, as ones.
+pub const CHANNEL_ONES: u32 = 0xf0_0000;
 
 // The first byte of a content ID has the flags; content and channel follow it.
 pub const FLAGS_SIZE: usize = 1;
@@ -77,13 +68,13 @@ pub const LATE_ID_PLACE: usize = 9;
 pub const ID_MOST: usize = 255;
 
 // The type of an EIDR.
-pub const EIDR: u8 = 1;
+pub const EIDR_TYPE: u8 = 1;
 
 // An EIDR's length.
 pub const EIDR_SIZE: usize = 12;
 
 // The type of an Ad-ID.
-pub const AD_ID: u8 = 2;
+pub const AD_ID_TYPE: u8 = 2;
 
 // The shortest Ad-ID.
 pub const AD_ID_LEAST: usize = 11;

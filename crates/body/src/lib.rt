@@ -16,10 +16,10 @@ pub use identifier::{fits_length, is_ad_character, wrong_character};
 pub use kind::{Format, Kind, read_body};
 pub use kinds::{ContentIds, PlainBytes, PresentationTimes};
 pub use layout::{
-    CHANNEL_FLAG, CHANNEL_NUMBER_MOST, CHANNEL_ONES, CHANNEL_SIZE, CONTENT_FLAG, CONTENT_ONES,
-    FLAGS_ONES, FLAGS_SIZE, LATE_ID_PLACE, LENGTH_PLACE, MAJOR_LOW, MAJOR_OFFSET,
-    MILLISECONDS_MOST, MILLISECONDS_OFFSET, MINOR_HIGH, MINOR_OFFSET, TIME_ONES, TIME_SIZE,
+    AD_ID_TYPE, CHANNEL_FLAG, CHANNEL_NUMBER_MOST, CHANNEL_ONES, CHANNEL_SIZE, CONTENT_FLAG,
+    CONTENT_ONES, EIDR_TYPE, FLAGS_ONES, FLAGS_SIZE, LATE_ID_PLACE, LENGTH_PLACE, MAJOR_OFFSET,
+    MILLISECONDS_MOST, MILLISECONDS_OFFSET, MINOR_OFFSET, TEN_BITS, TIME_ONES, TIME_SIZE,
     TYPE_MOST, TYPE_PLACE, UNTIL_FLAG, UNTIL_PLACE,
 };
-pub use message::{Channel, Content, ContentId, Time};
+pub use message::{Channel, Content, ContentId, Time, id_place};
 pub use numbers::{CONTENT_ID, KindName, PRESENTATION_TIME, kind_of};
