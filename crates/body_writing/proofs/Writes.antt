@@ -1,7 +1,7 @@
 -- Messages as they are written, and what a written output holds.
 use Rattle.std.proofs.Common.{◌≡◌, ℕ, ◌+◌, ◌≤◌, Bool, true, false, cond, ltb, List, length, take, Some, None, Ok, Err, Option, Result, sym, refl, ap, ◌∙◌, arith}
 use Rattle.std.proofs.lemmas.List.{length-append, take_at}
-use Rattle.std.proofs.lemmas.Bool.{le-ltb, ltb-false, cond-false}
+use Rattle.std.proofs.lemmas.Bool.{ltb-false}
 use Rattle.refusal.specs.declared.Refusal.{Refusal}
 use Rattle.refusal.specs.declared.Refusal.TheVariants.{Body, OutputLength}
 use Rattle.buffers.specs.Laid.{laid}
@@ -24,15 +24,6 @@ message_right ok c h e =
     let n = both_none (neither c h) _ e in
     let k = both_none (content_wrong ok c) _ n.1 in
     (k.0, (both_none (channel_wrong _ h) None k.1).0)
-
--- a body is written whole, and the bytes past it stay
-pub written_bytes : (w : Option ℕ) (body out after : List ℕ) → length body ≤ length out → w ≡ None → after ≡ laid out 0 body → after ≡ output_for w body out
-written_bytes w body out after h e d = d ∙ (sym (ap (λ x. left x body out) e) ∙ sym (cond-false _ _ _ (le-ltb _ _ h)))
-
-pub written_answer : (w : Option ℕ) (body out : List ℕ) (n : ℕ) → n ≡ length body → n ≤ length out → w ≡ None → Ok n ≡ answer_for w body out
-written_answer w body out n e h d =
-    let l : length body ≤ length out = omega arith in
-    ap Ok e ∙ (sym (ap (λ x. unless Body x (length body)) d) ∙ sym (cond-false _ _ _ (le-ltb _ _ l)))
 
 -- what was written stands at the front of the output
 by_room : (t : Bool) (w : Option ℕ) (body out after : List ℕ) (n : ℕ) (why : Refusal) → Ok n ≡ cond t (Err why) (unless Body w (length body)) → after ≡ cond t out (left w body out) → (w ≡ None) × (take n after ≡ body)

@@ -1,5 +1,5 @@
 -- What writing answers and leaves: by the place of a wrong value, the body, and the output that is lent.
-use Rattle.std.specs.Prelude.{ℕ, cond, List, length, Some, None, Err, Option, Result, nat_lt}
+use Rattle.std.specs.Prelude.{◌≡◌, ℕ, ◌+◌, ◌≤◌, cond, List, [], length, Some, None, Err, Option, Result, nat_lt}
 use Rattle.buffers.specs.Laid.{laid}
 use Rattle.buffers.specs.Places.{unless}
 use Rattle.refusal.specs.declared.Refusal.{Refusal}
@@ -27,3 +27,12 @@ write_answer wrong bytes m out = answer_for (wrong m) (bytes ones m) out
 -- every byte of the output afterwards
 abbrev pub output_after : (Said → Option ℕ) → (Reserved → Said → List ℕ) → Said → List ℕ → List ℕ
 output_after wrong bytes m out = output_for (wrong m) (bytes ones m) out
+
+-- the bytes of a part, none where it lacks
+abbrev pub or_nothing : Option (List ℕ) → List ℕ
+or_nothing (Some bytes) = bytes
+or_nothing None = []
+
+-- where bytes fit at a place they are written there, and the answer is where they end
+abbrev pub Lays : ℕ → List ℕ → List ℕ → Option ℕ → List ℕ → Type 0
+Lays at bytes old result new = at + length bytes ≤ length old → (result ≡ Some (at + length bytes)) × (new ≡ laid old at bytes)

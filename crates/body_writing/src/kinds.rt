@@ -7,11 +7,12 @@ ghost use Rattle.body_writing.specs.Unfits.{content_id_smallest, presentation_un
 ghost use Rattle.std.proofs.Common.{arith};
 ghost use Rattle.body.specs.Rounds.{round, presentation_round};
 
-use super::laying::{lay, time_as_bytes};
-use super::values::wrong_in_time;
+use super::laying::{lay_message, time_as_bytes};
+use super::values::{message_size, wrong_in_message, wrong_in_time};
 use super::writable::{WritableFormat, WritableKind};
-use super::writing::write;
+use super::writing::accept;
 use body::{ContentId, ContentIds, PresentationTimes, TIME_SIZE, Time};
+use buffers::lay;
 use refusal::Refusal;
 
 impl WritableFormat for ContentIds {
@@ -24,7 +25,8 @@ impl WritableFormat for ContentIds {
 
 impl<'a> WritableKind<'a> for ContentIds {
     fn write(message: &ContentId<'a>, out: &mut [u8]) -> Result<usize, Refusal> {
-        write(message, out)
+        accept(out.len(), message_size(message), wrong_in_message(message))?;
+        lay_message(out, message).ok_or(Refusal::OutputLength(out.len()))
     }
 }
 
@@ -38,12 +40,7 @@ impl WritableFormat for PresentationTimes {
 
 impl<'a> WritableKind<'a> for PresentationTimes {
     fn write(message: &Time, out: &mut [u8]) -> Result<usize, Refusal> {
-        if out.len() < TIME_SIZE {
-            return Err(Refusal::OutputLength(out.len()));
-        }
-        if let Some(place) = wrong_in_time(0, *message) {
-            return Err(Refusal::Body(place));
-        }
-        Ok(lay(out, 0, &time_as_bytes(*message)))
+        accept(out.len(), TIME_SIZE, wrong_in_time(0, *message))?;
+        lay(out, 0, &time_as_bytes(*message)).ok_or(Refusal::OutputLength(out.len()))
     }
 }

@@ -2,7 +2,6 @@
 // any such kind and reads it back. Nothing here knows how a body is sent, or allocates.
 #![tactic(auto)]
 
-mod fields;
 mod kinds;
 mod laying;
 mod values;

@@ -1,52 +1,19 @@
-// The writing of a content ID message: refusals first, then flags, content and channel.
-ghost use Rattle.std.specs.Prelude.{◌≡◌, ◌≤◌, length, None};
-ghost use Rattle.buffers.specs.Laid.{laid};
-ghost use Rattle.body.specs.Format.{ones, flags_byte, content_id_bytes, content_id_wrong};
-ghost use Rattle.body.specs.Identifiers.{is_alphanumeric};
-ghost use Rattle.body.specs.Messages.{option, identified, said_content_id};
-ghost use Rattle.body_writing.specs.Outputs.{write_answer, output_after};
+// What is refused before a message is written.
+ghost use Rattle.std.specs.Prelude.{◌≡◌, cond, Err, nat_lt};
+ghost use Rattle.buffers.specs.Places.{unless};
+ghost use Rattle.refusal.specs.declared.Refusal.TheVariants.{OutputLength, Body};
 
-use super::fields::{lay_channel, lay_content_part};
-use super::laying::lay;
-use super::values::{message_size, wrong_in_message};
-use body::{CHANNEL_FLAG, CONTENT_FLAG, ContentId, FLAGS_ONES};
 use refusal::Refusal;
 
-// The first byte: which parts follow, and six ones.
-fn first_byte(message: &ContentId) -> u8
-    ensures { result ≡ flags_byte ones.flags (option identified message.now.content) message.now.channel }
+// Refuses an output too short for a body of this size, or else a wrong value at its place.
+pub(crate) fn accept(room: usize, size: usize, wrong: Option<usize>) -> Result<(), Refusal>
+    ensures { result ≡ cond (nat_lt room size) (Err (OutputLength room)) (unless Body wrong tt) }
 {
-    match (&message.content, &message.channel) {
-        (Some(_), Some(_)) => CONTENT_FLAG + CHANNEL_FLAG + FLAGS_ONES,
-        (Some(_), None) => CONTENT_FLAG + FLAGS_ONES,
-        (None, Some(_)) => CHANNEL_FLAG + FLAGS_ONES,
-        (None, None) => FLAGS_ONES,
+    if room < size {
+        return Err(Refusal::OutputLength(room));
     }
-}
-
-// Writes a message that has no wrong value.
-fn lay_message(out: &mut [u8], message: &ContentId)
-    requires room { length (content_id_bytes ones (said_content_id message.now)) ≤ length out.old }
-    requires right { content_id_wrong is_alphanumeric (said_content_id message.now) ≡ None }
-    ensures { out.new ≡ laid out.old 0 (content_id_bytes ones (said_content_id message.now)) }
-{
-    let content_at = lay(out, 0, &[first_byte(message)]);
-    let channel_at = lay_content_part(out, content_at, &message.content);
-    lay_channel(out, channel_at, message.channel);
-}
-
-// Writes a content ID body, and answers its length.
-pub(crate) fn write(message: &ContentId, out: &mut [u8]) -> Result<usize, Refusal>
-    ensures answer { result ≡ write_answer (content_id_wrong is_alphanumeric) content_id_bytes (said_content_id message.now) out.old }
-    ensures output { out.new ≡ output_after (content_id_wrong is_alphanumeric) content_id_bytes (said_content_id message.now) out.old }
-{
-    let size = message_size(message);
-    if out.len() < size {
-        return Err(Refusal::OutputLength(out.len()));
+    match wrong {
+        Some(place) => Err(Refusal::Body(place)),
+        None => Ok(()),
     }
-    if let Some(place) = wrong_in_message(message) {
-        return Err(Refusal::Body(place));
-    }
-    lay_message(out, message);
-    Ok(size)
 }

@@ -1,12 +1,14 @@
-use Rattle.std.proofs.Common.{rules}
-use Rattle.std.proofs.lemmas.List.{length-append}
-use Rattle.body.specs.Format.{content_id_bytes}
+use Rattle.std.proofs.Common.{◌≡◌, length, ◌∙◌, rules, tests, arith}
+use Rattle.body.proofs.Parts.{mapped}
+use Rattle.body.specs.declared.message.Channel.{Channel}
+use Rattle.body.specs.Format.{ones, channel_bytes}
+use Rattle.body.specs.Messages.{option, identified}
+use Rattle.body_writing.proofs.Writes.{message_length}
+use Rattle.body_writing.proofs.Options.{channel_size}
 use Rattle.body_writing.proofs.values.message_size.Goals as goal
 
-pub returns-in-Some : goal.returns-in-Some
-unfolding content_id_bytes
-returns-in-Some c = simp length-append (search rules)
-
-pub returns-in-None : goal.returns-in-None
-unfolding content_id_bytes
-returns-in-None c = simp length-append (search rules)
+pub returns : goal.returns
+returns c =
+    let m = c.args.message.now in
+    let size : c.map_or.result ≡ length (channel_bytes ones.channel m.channel) = mapped (λ (x : Channel). 5) m.channel 0 c.map_or.result _ c.map_or.ensures (λ x k. search (rules, tests)) ∙ channel_size m.channel in
+    omega (arith, message_length (option identified m.content) m.channel, size, c.channel_place.ensures.place)
