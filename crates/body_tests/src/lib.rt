@@ -8,35 +8,29 @@ mod tests {
         Time, kind_of, read_body,
     };
     use body_writing::write_body;
+    use refusal::Refusal;
     use std::test::Fail;
 
     const EIDR: [u8; 12] = [
         0x14, 0x78, 0x77, 0x91, 0x85, 0x34, 0x2c, 0x23, 0x90, 0x30, 0x86, 0x10,
     ];
 
-    // The number and place at which a content ID body is refused; 0 and 0 where it is read.
-    fn read_refused(body: &[u8]) -> (u8, u64) {
-        match read_body::<ContentIds>(body) {
-            Ok(_) => (0, 0),
-            Err(refusal) => (refusal.number(), refusal.place()),
+    const ALMOST_TWO: Time = Time {
+        seconds: 1,
+        milliseconds: 999,
+    };
+
+    // The number and place at which an answer refuses.
+    fn refused<T: Drop>(answer: Result<T, Refusal>) -> Option<(u8, u64)> {
+        match answer {
+            Ok(_) => None,
+            Err(refusal) => Some((refusal.number(), refusal.place())),
         }
     }
 
-    // The same of a presentation time body.
-    fn time_refused(body: &[u8]) -> (u8, u64) {
-        match read_body::<PresentationTimes>(body) {
-            Ok(_) => (0, 0),
-            Err(refusal) => (refusal.number(), refusal.place()),
-        }
-    }
-
-    // The number and place at which a content ID message is refused by the call that writes and reads back.
-    fn write_refused(message: &ContentId) -> (u8, u64) {
-        let mut out = [0xaau8; 300];
-        match write_body::<ContentIds>(message, &mut out) {
-            Ok(_) => (0, 0),
-            Err(refusal) => (refusal.number(), refusal.place()),
-        }
+    // The same of a content ID message in the call that writes and reads back.
+    fn write_refused(message: &ContentId) -> Option<(u8, u64)> {
+        refused(write_body::<ContentIds>(message, &mut [0xaa; 300]))
     }
 
     // A message with a content alone.
@@ -59,31 +53,14 @@ mod tests {
         }
     }
 
-    // The number of the kind that a message number has.
-    fn kind(number: u8) -> u8 {
-        match kind_of(number) {
-            None => 0,
-            Some(KindName::ContentId) => 1,
-            Some(KindName::PresentationTime) => 2,
-            Some(KindName::Plain) => 3,
-        }
-    }
-
     #[test]
     fn a_presentation_time(rt: HostRuntime) -> Result<(), Fail> {
         let mut out = [0xaau8; 8];
-        let n = write_body::<PresentationTimes>(
-            &Time {
-                seconds: 1,
-                milliseconds: 999,
-            },
-            &mut out,
-        )?;
+        let n = write_body::<PresentationTimes>(&ALMOST_TWO, &mut out)?;
         assert_eq!(rt; n, 6);
         assert_eq!(rt; out, [0, 0, 0, 1, 0xff, 0xe7, 0xaa, 0xaa]);
         let time = read_body::<PresentationTimes>(&[0, 0, 0, 1, 0xff, 0xe7])?;
-        assert_eq!(rt; time.seconds, 1);
-        assert_eq!(rt; time.milliseconds, 999);
+        assert_eq!(rt; time, ALMOST_TWO);
         Ok(())
     }
 
@@ -114,17 +91,7 @@ mod tests {
     #[test]
     fn an_ad_id_until(rt: HostRuntime) -> Result<(), Fail> {
         let mut out = [0xaau8; 20];
-        let n = write_body::<ContentIds>(
-            &content(
-                2,
-                Some(Time {
-                    seconds: 1,
-                    milliseconds: 999,
-                }),
-                b"ABCD0123xyz",
-            ),
-            &mut out,
-        )?;
+        let n = write_body::<ContentIds>(&content(2, Some(ALMOST_TWO), b"ABCD0123xyz"), &mut out)?;
         assert_eq!(rt; n, 20);
         assert_eq!(rt;
             out,
@@ -141,15 +108,22 @@ mod tests {
         let message = read_body::<ContentIds>(&[
             0xc0, 0x43, 1, 0, 0, 0, 1, 0x03, 0xe7, 7, 0x01, 0x02, 0x00, 0x14, 0x01,
         ])?;
-        let content = message.content.ok_or("no content")?;
-        let until = content.valid_until.ok_or("no valid-until")?;
-        let channel = message.channel.ok_or("no channel")?;
-        assert_eq!(rt; content.id_type, 3);
-        assert!(rt; content.id == [7].as_slice());
-        assert_eq!(rt; (until.seconds, until.milliseconds), (1, 999));
+        let content = Content {
+            id_type: 3,
+            valid_until: Some(ALMOST_TWO),
+            id: &[7],
+        };
+        let channel = Channel {
+            bsid: 0x0102,
+            major: 5,
+            minor: 1,
+        };
         assert_eq!(rt;
-            (channel.bsid, channel.major, channel.minor),
-            (0x0102, 5, 1)
+            message,
+            ContentId {
+                content: Some(content),
+                channel: Some(channel),
+            }
         );
         Ok(())
     }
@@ -157,30 +131,66 @@ mod tests {
     #[test]
     fn content_id_bodies_are_refused_at_their_wrong_place(rt: HostRuntime) {
         // empty; neither part; type or length lack; EIDR of 11; Ad-ID of 13; 1,000 milliseconds
-        assert_eq!(rt; read_refused(&[]), (9, 0));
-        assert_eq!(rt; read_refused(&[0x3f, 1]), (9, 0));
-        assert_eq!(rt; read_refused(&[0xbf, 0x81]), (9, 2));
-        assert_eq!(rt; read_refused(&[0xbf, 0x81, 11, 0]), (9, 2));
-        assert_eq!(rt; read_refused(&[0xbf, 0x82, 13, b'-']), (9, 2));
+        assert_eq!(rt; refused(read_body::<ContentIds>(&[])), Some((9, 0)));
+        assert_eq!(rt; refused(read_body::<ContentIds>(&[0x3f, 1])), Some((9, 0)));
         assert_eq!(rt;
-            read_refused(&[0xbf, 0xc3, 1, 0, 0, 0, 0, 0xff, 0xe8]),
-            (9, 7)
+            refused(read_body::<ContentIds>(&[0xbf, 0x81])),
+            Some((9, 2))
+        );
+        assert_eq!(rt;
+            refused(read_body::<ContentIds>(&[0xbf, 0x81, 11, 0])),
+            Some((9, 2))
+        );
+        assert_eq!(rt;
+            refused(read_body::<ContentIds>(&[0xbf, 0x82, 13, b'-'])),
+            Some((9, 2))
+        );
+        assert_eq!(rt;
+            refused(read_body::<ContentIds>(&[0xbf, 0xc3, 1, 0, 0, 0, 0, 0xff, 0xe8])),
+            Some((9, 7))
         );
         // valid-until lacks a byte; a wrong character before a lacking byte; the identifier lacks; the channel lacks; a byte more
-        assert_eq!(rt; read_refused(&[0xbf, 0xc3, 1, 0, 0, 0, 0, 0xff]), (9, 8));
-        assert_eq!(rt; read_refused(&[0xbf, 0x82, 11, b'A', b'-']), (9, 4));
-        assert_eq!(rt; read_refused(&[0xbf, 0x82, 11, b'A', b'B']), (9, 5));
-        assert_eq!(rt; read_refused(&[0x7f, 1, 2, 0xf0, 0x14]), (9, 5));
-        assert_eq!(rt; read_refused(&[0xbf, 0x83, 1, 7, 7, 7]), (9, 4));
+        assert_eq!(rt;
+            refused(read_body::<ContentIds>(&[0xbf, 0xc3, 1, 0, 0, 0, 0, 0xff])),
+            Some((9, 8))
+        );
+        assert_eq!(rt;
+            refused(read_body::<ContentIds>(&[0xbf, 0x82, 11, b'A', b'-'])),
+            Some((9, 4))
+        );
+        assert_eq!(rt;
+            refused(read_body::<ContentIds>(&[0xbf, 0x82, 11, b'A', b'B'])),
+            Some((9, 5))
+        );
+        assert_eq!(rt;
+            refused(read_body::<ContentIds>(&[0x7f, 1, 2, 0xf0, 0x14])),
+            Some((9, 5))
+        );
+        assert_eq!(rt;
+            refused(read_body::<ContentIds>(&[0xbf, 0x83, 1, 7, 7, 7])),
+            Some((9, 4))
+        );
     }
 
     #[test]
     fn presentation_times_are_refused_at_their_wrong_place(rt: HostRuntime) {
-        assert_eq!(rt; time_refused(&[]), (9, 0));
-        assert_eq!(rt; time_refused(&[0, 0, 0, 1, 0xff]), (9, 5));
-        assert_eq!(rt; time_refused(&[0, 0, 0, 1, 0xff, 0xe8]), (9, 4));
-        assert_eq!(rt; time_refused(&[0, 0, 0, 1, 0xff, 0xe8, 0]), (9, 4));
-        assert_eq!(rt; time_refused(&[0, 0, 0, 1, 0xff, 0xe7, 0]), (9, 6));
+        assert_eq!(rt; refused(read_body::<PresentationTimes>(&[])), Some((9, 0)));
+        assert_eq!(rt;
+            refused(read_body::<PresentationTimes>(&[0, 0, 0, 1, 0xff])),
+            Some((9, 5))
+        );
+        assert_eq!(rt;
+            refused(read_body::<PresentationTimes>(&[0, 0, 0, 1, 0xff, 0xe8])),
+            Some((9, 4))
+        );
+        assert_eq!(rt;
+            refused(read_body::<PresentationTimes>(&[0, 0, 0, 1, 0xff, 0xe8, 0])),
+            Some((9, 4))
+        );
+        assert_eq!(rt;
+            refused(read_body::<PresentationTimes>(&[0, 0, 0, 1, 0xff, 0xe7, 0])),
+            Some((9, 6))
+        );
     }
 
     #[test]
@@ -194,42 +204,46 @@ mod tests {
                 content: None,
                 channel: None,
             },),
-            (9, 0)
+            Some((9, 0))
         );
-        assert_eq!(rt; write_refused(&content(64, None, b"any")), (9, 1));
-        assert_eq!(rt; write_refused(&content(3, None, &[0; 256])), (9, 2));
-        assert_eq!(rt; write_refused(&content(1, None, b"ELEVENBYTES")), (9, 2));
-        assert_eq!(rt; write_refused(&content(3, Some(late), b"any")), (9, 7));
-        assert_eq!(rt; write_refused(&content(2, None, b"ABCD-123456")), (9, 7));
-        assert_eq!(rt; write_refused(&channel(1, 1024, 1)), (9, 3));
-        assert_eq!(rt; write_refused(&channel(1, 5, 1024)), (9, 4));
+        assert_eq!(rt; write_refused(&content(64, None, b"any")), Some((9, 1)));
+        assert_eq!(rt; write_refused(&content(3, None, &[0; 256])), Some((9, 2)));
+        assert_eq!(rt;
+            write_refused(&content(1, None, b"ELEVENBYTES")),
+            Some((9, 2))
+        );
+        assert_eq!(rt;
+            write_refused(&content(3, Some(late), b"any")),
+            Some((9, 7))
+        );
+        assert_eq!(rt;
+            write_refused(&content(2, None, b"ABCD-123456")),
+            Some((9, 7))
+        );
+        assert_eq!(rt; write_refused(&channel(1, 1024, 1)), Some((9, 3)));
+        assert_eq!(rt; write_refused(&channel(1, 5, 1024)), Some((9, 4)));
     }
 
     #[test]
     fn a_short_output_comes_first_and_stays(rt: HostRuntime) {
         let mut out = [0xaau8; 5];
-        match write_body::<PresentationTimes>(
-            &Time {
-                seconds: 1,
-                milliseconds: 1000,
-            },
-            &mut out,
-        ) {
-            Ok(_) => assert!(rt; false),
-            Err(refusal) => assert_eq!(rt; (refusal.number(), refusal.place()), (4, 5)),
-        }
+        let late = Time {
+            seconds: 1,
+            milliseconds: 1000,
+        };
+        let answer = write_body::<PresentationTimes>(&late, &mut out);
+        assert_eq!(rt; refused(answer), Some((4, 5)));
         assert_eq!(rt; out, [0xaa; 5]);
     }
 
     #[test]
     fn a_number_has_one_kind(rt: HostRuntime) -> Result<(), Fail> {
-        assert_eq!(rt;
-            (kind(0), kind(1), kind(2), kind(3), kind(255)),
-            (0, 1, 2, 3, 3)
-        );
-        assert!(rt;
-            <PlainBytes as body::Format>::takes(3) && !<PlainBytes as body::Format>::takes(2)
-        );
+        assert_eq!(rt; kind_of(0), None);
+        assert_eq!(rt; kind_of(1), Some(KindName::ContentId));
+        assert_eq!(rt; kind_of(2), Some(KindName::PresentationTime));
+        assert_eq!(rt; kind_of(3), Some(KindName::Plain));
+        assert_eq!(rt; kind_of(255), Some(KindName::Plain));
+        assert!(rt; PlainBytes::takes(3) && !PlainBytes::takes(2));
         let bytes = read_body::<PlainBytes>(&[1, 2, 3])?;
         assert!(rt; bytes == [1, 2, 3].as_slice());
         Ok(())
