@@ -1,26 +1,9 @@
 -- The answer to opening a frame, by its length.
-use Rattle.std.proofs.Common.{◌≡◌, ℕ, ◌<◌, ◌≤◌, Bool, true, false, cond, ◌⊎◌, ◌∷◌, replicate, Ok, Err, Result, sym, refl, ap, ⊎_elim, arith}
-use Rattle.std.proofs.lemmas.Bool.Decides.{nat_tests}
+use Rattle.std.proofs.Common.{◌≡◌, ℕ, Bool, true, false, cond, ◌∷◌, replicate, Ok, Err, Result, refl, arith}
 use Rattle.refusal.specs.declared.Refusal.{Refusal}
 use Rattle.refusal.specs.declared.Refusal.TheVariants.{Payload}
 use Rattle.frame.specs.Groups.{Open}
 use Rattle.frame.specs.Marking.{frame_length, opening}
-
-pub length_wrong : (n : ℕ) → (n < 2) ⊎ (60 < n) → frame_length n ≡ false
-unfolding frame_length
-length_wrong n h = ⊎_elim (λ (l : n < 2). grind (arith, nat_tests)) (λ (l : 60 < n). grind (arith, nat_tests)) h
-
-pub length_right : (n : ℕ) → 2 ≤ n → n ≤ 60 → frame_length n ≡ true
-unfolding frame_length
-length_right n l h = grind (arith, nat_tests)
-
-pub opening_refused : (n : ℕ) → (n < 2) ⊎ (60 < n) → Err Payload ≡ opening n
-unfolding opening
-opening_refused n h = sym (ap (λ t. cond t (Ok (record { bytes = 235 ∷ 82 ∷ replicate 58 0; size = n; mark = 2 })) (Err Payload)) (length_wrong n h))
-
-pub opening_right : (n : ℕ) → 2 ≤ n → n ≤ 60 → Ok (record { bytes = 235 ∷ 82 ∷ replicate 58 0; size = n; mark = 2 }) ≡ opening n
-unfolding opening
-opening_right n l h = sym (ap (λ t. cond t (Ok (record { bytes = 235 ∷ 82 ∷ replicate 58 0; size = n; mark = 2 })) (Err Payload)) (length_right n l h))
 
 -- a frame as it is opened
 abbrev pub begun : ℕ → Open

@@ -7,7 +7,7 @@ use Rattle.std.proofs.lemmas.List.{take_more, drop_more, take_all, drop_all, fla
 use Rattle.refusal.specs.declared.Refusal.{Refusal}
 use Rattle.buffers.specs.Laid.{laid}
 use Rattle.buffers.proofs.Lays.{laid_none, laid_more, laid_place, length_laid, take_laid, take_laid_below, drop_laid}
-use Rattle.sending.specs.Sendings.{Block, IsSending}
+use Rattle.sending.specs.Sendings.{Block}
 use Rattle.wire.specs.Wire.{block_bytes}
 use Rattle.walk.specs.Laws.{OfASending}
 use Rattle.frame.specs.Frames.{wires, Holds, Filled}
@@ -40,10 +40,6 @@ laid_behind xs a ps k h far =
     let e : m + (k - m) ≡ k = omega arith in
     ap (λ j. get_or (laid xs a ps) j 0) (sym e) ∙ sym (get_or-drop m (laid xs a ps) (k - m) 0) ∙ ap (λ l. get_or l (k - m) 0) (drop_laid xs a ps m (omega arith) h)
     ∙ get_or-drop m xs (k - m) 0 ∙ ap (λ j. get_or xs j 0) e
-
--- a block of the code's sending is a block of a sending
-pub of_a_sending : (w : Want) → IsSending w.sending → w.index < length w.sending.parts → OfASending (block_of w)
-of_a_sending w r h = (w.sending, (r, (w.index, h, refl)))
 
 -- the first i blocks of a group are written into xs from the mark old, which has come to mark
 pub record Going (n : ℕ) (xs : List ℕ) (old : ℕ) (ws : List Want) (i mark : ℕ) (ys : List ℕ) : Type 0 where
@@ -111,16 +107,15 @@ module _ (n : ℕ) (xs : List ℕ) (old : ℕ) (ws : List Want) (room : n ≤ le
             ∙ ap (λ r. blocks (take i ws) ++ unless_refused r (block_of w ∷ before_refusal n (mark + size_of w) (i + 1) (drop (i + 1) ws))) (sym no)
             ∙ append-nil (blocks (take i ws))
 
-        pub refused_frame : (ys' : List ℕ) → ys' ≡ ys → (mark' : ℕ) → mark' ≡ old
-            → SentBack (record { bytes = xs; size = n; mark = old }) (before_refusal n old 0 ws) (record { bytes = ys'; size = n; mark = mark' })
-        refused_frame ys' y mark' m =
+        pub refused_frame : (ys' : List ℕ) → ys' ≡ ys → SentBack (record { bytes = xs; size = n; mark = old }) (before_refusal n old 0 ws) (record { bytes = ys'; size = n; mark = old })
+        refused_frame ys' y =
             let ps = wires (blocks (take i ws)) in
             let is : ys' ≡ laid xs old ps = y ∙ g.bytes in
             let h : old + length ps ≤ length xs = omega (arith, g.place, g.within) in
-            subst (λ q. SentBack (record { bytes = xs; size = n; mark = old }) q (record { bytes = ys'; size = n; mark = mark' })) (sym refused_before)
+            subst (λ q. SentBack (record { bytes = xs; size = n; mark = old }) q (record { bytes = ys'; size = n; mark = old })) (sym refused_before)
             (record {
               size = refl;
-              mark = m;
+              mark = refl;
               length_same = ap length is ∙ length_laid xs old ps h;
               below = ap (take old) y ∙ going_back;
               between = λ k low _. subst (λ l. (get_or l k 0 ≡ get_or xs k 0) ⊎ (get_or l k 0 ≡ get_or ps (k - old) 0)) (sym is)
@@ -136,14 +131,13 @@ module _ (n : ℕ) (xs : List ℕ) (old : ℕ) (ws : List Want) (room : n ≤ le
       pub whole_answer : Ok tt ≡ put_answer n old 0 ws
       whole_answer = sym (g.answer ∙ ap (put_answer n mark i) (drop_all i ws past))
 
-      pub whole_frame : (mark' : ℕ) → mark' ≡ mark → Taken (record { bytes = xs; size = n; mark = old }) (blocks ws) (record { bytes = ys; size = n; mark = mark' })
-      whole_frame mark' m =
+      pub whole_frame : Taken (record { bytes = xs; size = n; mark = old }) (blocks ws) (record { bytes = ys; size = n; mark = mark })
+      whole_frame =
           let t : take i ws ≡ ws = take_all i ws past in
-          record { bytes = g.bytes ∙ ap (λ l. laid xs old (wires (blocks l))) t; size = refl; mark = m ∙ g.place ∙ ap (λ l. old + length (wires (blocks l))) t }
+          record { bytes = g.bytes ∙ ap (λ l. laid xs old (wires (blocks l))) t; size = refl; mark = g.place ∙ ap (λ l. old + length (wires (blocks l))) t }
 
-      pub whole_holds : (mark' : ℕ) → mark' ≡ mark → (bs : List Block) → Holds (take old xs) bs → Holds (take mark' ys) (bs ++ put_blocks n old ws)
-      whole_holds mark' m bs h =
+      pub whole_holds : (bs : List Block) → Holds (take old xs) bs → Holds (take mark ys) (bs ++ put_blocks n old ws)
+      whole_holds bs h =
           let t : take i ws ≡ ws = take_all i ws past in
           let r : put_blocks n old ws ≡ blocks (take i ws) = ap (λ a. unless_refused a (blocks ws)) (sym whole_answer) ∙ ap blocks (sym t) in
-          subst (λ q. Holds (take mark' ys) (bs ++ q)) (sym r)
-          (subst (λ q. Holds (take q ys) (bs ++ blocks (take i ws))) (sym m) (holds_more (take old xs) (take mark ys) bs (blocks (take i ws)) g.each going_bytes h))
+          subst (λ q. Holds (take mark ys) (bs ++ q)) (sym r) (holds_more (take old xs) (take mark ys) bs (blocks (take i ws)) g.each going_bytes h)

@@ -17,11 +17,6 @@ err_size : (t : Bool) (r : Refusal) (y : ℕ) (e : Refusal) → ◌≡◌ {A = R
 err_size true r y e is = absurd (let z : ◌≡◌ {A = ℕ} 0 1 = cc in omega arith)
 err_size false r y e is = (refl, cc)
 
-ok_tried : (t u : Bool) (x : Unit {0}) (a b : Refusal) → ◌≡◌ {A = Result (Unit {0}) Refusal} (Ok x) (cond t (cond u (Err a) (Ok tt)) (Err b)) → (t ≡ true) × (u ≡ false)
-ok_tried true true x a b is = absurd (let z : ◌≡◌ {A = ℕ} 0 1 = cc in omega arith)
-ok_tried true false x a b is = (refl, refl)
-ok_tried false u x a b is = absurd (let z : ◌≡◌ {A = ℕ} 0 1 = cc in omega arith)
-
 ok_not_err : (x : ℕ) (e : Refusal) (r : Result ℕ Refusal) → Err e ≡ r → Ok x ≡ r → ⊥
 ok_not_err x e r a b = let z : ◌≡◌ {A = ℕ} 0 1 = cc in omega arith
 
@@ -61,11 +56,6 @@ module _ (n mark i : ℕ) (w : Want) where
   tried_fits h k =
       sym (ap (λ t. cond t (cond past (Err (FrameEnd i)) (Ok tt)) (Err NotOfASending)) (lt-ltb w.index (length w.sending.parts) h)
       ∙ ap (λ t. cond t (Err (FrameEnd i)) (Ok tt)) (le-ltb n (mark + size_of w) k))
-
-  -- a block that goes in is one of its sending
-  pub tried_there : (x : Unit {0}) → Ok x ≡ block_answer n mark i w → w.index < length w.sending.parts
-  unfolding block_answer
-  tried_there x e = ltb-true w.index (length w.sending.parts) (ok_tried there past x (FrameEnd i) NotOfASending e).0
 
   pub size_bytes : size_of w ≡ length (block_bytes (block_of w))
   unfolding size

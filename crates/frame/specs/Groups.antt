@@ -7,7 +7,7 @@ use Rattle.buffers.specs.Laid.{laid}
 use Rattle.sending.specs.Sendings.{Sending, Block, block}
 use Rattle.wire.specs.Wire.{block_bytes}
 use Rattle.wire.specs.Writing.{size}
-use Rattle.frame.specs.Frames.{wires}
+use Rattle.frame.specs.Frames.{wires, Filled}
 
 -- a block that is wanted in a frame: which sending, and which block of it
 pub record Want : Type 0 where
@@ -76,6 +76,17 @@ pub record Open : Type 0 where
   pub bytes : List ℕ
   pub size : ℕ
   pub mark : ℕ
+
+-- the bytes up to its mark
+abbrev pub filled : Open → List ℕ
+filled f = take f.mark f.bytes
+
+-- what is true of every open frame: it holds EB 52 and blocks of sendings up to its mark, which lies within its payload
+pub record IsOpen (f : Open) : Type 0 where
+  pub begun : 2 ≤ f.mark
+  pub within : f.mark ≤ f.size
+  pub room : f.size ≤ 60
+  pub holds : Filled (filled f)
 
 -- the blocks that a group puts into a frame of n bytes with this mark: all of them or none
 abbrev pub put_blocks : ℕ → ℕ → List Want → List Block

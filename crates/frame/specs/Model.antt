@@ -1,16 +1,16 @@
 -- What the types of the code mean, in the words of the subject.
 use Rattle.std.specs.Borrow.{Bor}
-use Rattle.std.specs.Prelude.{ℕ, List, map, take, Ok, Err, Result}
-use Rattle.refusal.specs.declared.Refusal.{Refusal}
-use Rattle.sending.specs.Model.{sent}
-use Rattle.frame.specs.Groups.{Want, Open}
+use Rattle.std.specs.Prelude.{◌≡◌, ℕ, ◌+◌, ◌≤◌, List, map}
+use Rattle.buffers.specs.Laid.{laid}
+use Rattle.wire.specs.Wire.{block_bytes}
+use Rattle.walk.specs.Laws.{OfASending}
+use Rattle.frame.specs.Groups.{Want, block_of, size_of}
 use Rattle.frame.specs.declared.wanted.Wanted.{Wanted}
-use Rattle.frame.specs.declared.frame.OpenFrame.{OpenFrame}
-use Rattle.frame.specs.declared.frame.SealedFrame.{SealedFrame}
+use Rattle.frame.specs.declared.frame.Fill.{Fill}
 
 -- the block that is wanted
 abbrev pub want : Wanted → Want
-want w = record { sending = sent w.sending.now; index = w.block }
+want w = record { sending = w.sending.now; index = w.block }
 
 -- the blocks that a group wants
 abbrev pub wants : List (Bor Wanted) → List Want
@@ -20,24 +20,15 @@ wants ws = map (λ w. want w.now) ws
 abbrev pub groups_want : List (Bor (List (Bor Wanted))) → List (List Want)
 groups_want gs = map (λ g. wants g.now) gs
 
--- an open frame
-abbrev pub opened : OpenFrame → Open
-opened f = record { bytes = f.bytes; size = f.size; mark = f.fill.mark }
+-- a wanted block goes into a frame's memory at its mark: it is a block of a sending, and there is room for it
+pub record Goes (before : Fill) (xs : List ℕ) (w : Want) (after : Fill) (ys : List ℕ) : Type 0 where
+  pub bytes : ys ≡ laid xs before.mark (block_bytes (block_of w))
+  pub mark : after.mark ≡ before.mark + size_of w
+  pub size : after.size ≡ before.size
+  pub within : after.mark ≤ before.size
+  pub sent : OfASending (block_of w)
 
--- an answer with its open frame
-abbrev pub opened_told : Result OpenFrame Refusal → Result Open Refusal
-opened_told (Ok f) = Ok (opened f)
-opened_told (Err e) = Err e
-
--- the bytes up to an open frame's mark
-abbrev pub filled : OpenFrame → List ℕ
-filled f = take f.fill.mark f.bytes
-
--- the payload of a sealed frame
-abbrev pub payload_bytes : SealedFrame → List ℕ
-payload_bytes f = take f.size f.bytes
-
--- an answer with its frame's payload
-abbrev pub payload_told : Result SealedFrame Refusal → Result (List ℕ) Refusal
-payload_told (Ok f) = Ok (payload_bytes f)
-payload_told (Err e) = Err e
+-- nothing changes
+pub record Stays (before : Fill) (xs : List ℕ) (after : Fill) (ys : List ℕ) : Type 0 where
+  pub bytes : ys ≡ xs
+  pub fill : after ≡ before

@@ -1,32 +1,46 @@
 // Open and sealed frames in memory: two types, so that no open frame is drawn and nothing is put into a sealed one.
-ghost use Rattle.std.specs.Prelude.{◌≡◌, ℕ, ◌≤◌, take};
-ghost use Rattle.frame.specs.Frames.{Filled, SealedOver};
+use super::limits::MEMORY;
+use std::marker::Model;
 
-// How far a frame is filled.
-#[derive(Clone, Copy)]
+// How many bytes a frame's payload will have, and how far it is filled.
+#[derive(Clone, Copy, PartialEq, Eq, Debug)]
 pub(crate) struct Fill {
+    pub(crate) size: usize,
     pub(crate) mark: usize,
 }
 
 // A frame that takes blocks of sendings. Every one that exists holds EB 52 and such blocks, and nothing else, below its mark.
 #[derive(Drop)]
 pub struct OpenFrame {
-    pub(crate) bytes: [u8; 60],
-    // how many bytes its payload will have
-    pub(crate) size: usize,
+    pub(crate) bytes: [u8; MEMORY],
     pub(crate) fill: Fill,
-    ghost begun: { 2 ≤ fill.mark },
-    ghost within: { fill.mark ≤ size },
-    ghost room: { size ≤ 60 },
-    ghost holds: { Filled (take fill.mark bytes) },
 }
 
-// A frame that is drawn. Every one that exists is EB 52, blocks of sendings and zeros, 2 to 60 bytes in all.
+impl Model for OpenFrame {
+    ghost use Rattle.frame.specs.Groups.{Open, IsOpen};
+
+    ghost Value = { Open };
+
+    ghost view = { λ f. record { bytes = f.bytes; size = f.fill.size; mark = f.fill.mark } };
+
+    ghost invariant = { λ f. IsOpen (record { bytes = f.bytes; size = f.fill.size; mark = f.fill.mark }) };
+}
+
+// A frame that is drawn, seen as its payload. Every one that exists is EB 52, blocks of sendings and zeros, 2 to 60 bytes in
+// all.
 #[derive(Drop)]
 pub struct SealedFrame {
-    pub(crate) bytes: [u8; 60],
+    pub(crate) bytes: [u8; MEMORY],
     pub(crate) size: usize,
-    ghost least: { 2 ≤ size },
-    ghost most: { size ≤ 60 },
-    ghost holds: { SealedOver (take size bytes) },
+}
+
+impl Model for SealedFrame {
+    ghost use Rattle.std.specs.Prelude.{ℕ, ◌≤◌, List, take};
+    ghost use Rattle.frame.specs.Frames.{SealedOver};
+
+    ghost Value = { List ℕ };
+
+    ghost view = { λ f. take f.size f.bytes };
+
+    ghost invariant = { λ f. (f.size ≤ 60) × SealedOver (take f.size f.bytes) };
 }

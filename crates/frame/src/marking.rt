@@ -1,8 +1,9 @@
 // A frame of a list of groups.
-ghost use Rattle.std.specs.Prelude.{◌≡◌, ℕ, ◌+◌, ◌≤◌, ◌++◌, length, drop, IfOk};
+ghost use Rattle.std.specs.Prelude.{◌≡◌, ◌+◌, ◌≤◌, ◌++◌, length, drop, IfOk};
 ghost use Rattle.frame.specs.Frames.{wires, Grows, Sealed};
+ghost use Rattle.frame.specs.Groups.{filled};
 ghost use Rattle.frame.specs.Marking.{groups_blocks, groups_refusals, not_refused, frame_of, refusals_of};
-ghost use Rattle.frame.specs.Model.{groups_want, filled, payload_bytes, payload_told};
+ghost use Rattle.frame.specs.Model.{groups_want};
 
 use super::frame::{OpenFrame, SealedFrame};
 use super::wanted::Wanted;
@@ -13,10 +14,11 @@ impl OpenFrame {
     fn put_each(&mut self, groups: &[&[&Wanted<'_>]], refused: &mut [Option<Refusal>])
         requires room { length groups.now ≤ length refused.old }
         ensures size { self.new.size ≡ self.old.size }
-        ensures mark { self.new.fill.mark ≡ self.old.fill.mark + length (wires (groups_blocks self.old.size self.old.fill.mark (groups_want groups.now))) }
-        ensures blocks { Grows (filled self.old) (filled self.new) (groups_blocks self.old.size self.old.fill.mark (groups_want groups.now)) }
-        ensures refused { refused.new ≡ groups_refusals self.old.size self.old.fill.mark (groups_want groups.now) ++ drop (length groups.now) refused.old }
+        ensures mark { self.new.mark ≡ self.old.mark + length (wires (groups_blocks self.old.size self.old.mark (groups_want groups.now))) }
+        ensures blocks { Grows (filled self.old) (filled self.new) (groups_blocks self.old.size self.old.mark (groups_want groups.now)) }
+        ensures refused { refused.new ≡ groups_refusals self.old.size self.old.mark (groups_want groups.now) ++ drop (length groups.now) refused.old }
     {
+        // By index: over `refused.iter_mut().zip(groups)` the proof learns nothing of what was written into `refused`.
         for (i, group) in groups.iter().enumerate() {
             refused[i] = self.put(group).err();
         }
@@ -30,8 +32,8 @@ pub fn mark_frame(
     groups: &[&[&Wanted<'_>]],
     refused: &mut [Option<Refusal>],
 ) -> Result<SealedFrame, Refusal>
-    ensures answer { payload_told result ≡ frame_of (length refused.old) size (groups_want groups.now) }
-    ensures holds_the_groups_not_refused { IfOk result (λ f. Sealed (payload_bytes f) (not_refused (groups_want groups.now) refused.new)) }
+    ensures answer { result ≡ frame_of (length refused.old) size (groups_want groups.now) }
+    ensures holds_the_groups_not_refused { IfOk result (λ payload. Sealed payload (not_refused (groups_want groups.now) refused.new)) }
     ensures refused { refused.new ≡ refusals_of result size (groups_want groups.now) refused.old }
 {
     if refused.len() < groups.len() {

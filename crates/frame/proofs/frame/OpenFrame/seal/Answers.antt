@@ -4,17 +4,22 @@ use Rattle.frame.proofs.frame.OpenFrame.seal.Goals as goal
 
 pub invariant_of-result : goal.invariant_of-result
 invariant_of-result c =
-    let s = c.args.self in
+    let s = c.self.inside in
+    let o = c.self.invariant in
     let l : length s.bytes ≡ 60 = search rules in
-    let low : 2 ≤ s.size = omega (arith, s.begun, s.within) in
-    record { least = low; most = s.room; holds = sealed_over s.fill.mark s.size s.bytes c.clear.new.part l low s.within s.room c.clear.ensures s.holds }
+    let e = c.fill.ensures.after (λ y h. search rules) in
+    let low : 2 ≤ s.fill.size = omega (arith, o.begun, o.within) in
+    (o.room, sealed_over s.fill.mark s.fill.size s.bytes c.fill.new.self l low o.within o.room e o.holds)
 
 pub returns : goal.returns
 returns c =
-    let s = c.args.self in
+    let s = c.self.inside in
+    let o = c.self.invariant in
     let l : length s.bytes ≡ 60 = search rules in
-    let low : 2 ≤ s.size = omega (arith, s.begun, s.within) in
-    record {
-      payload = sealed_payload s.fill.mark s.size s.bytes c.clear.new.part l low s.within s.room c.clear.ensures;
-      blocks = sealed_blocks s.fill.mark s.size s.bytes c.clear.new.part l low s.within s.room c.clear.ensures;
-    }
+    let e = c.fill.ensures.after (λ y h. search rules) in
+    let low : 2 ≤ s.fill.size = omega (arith, o.begun, o.within) in
+    rw (← c.self.view_is)
+    (record {
+      payload = sealed_payload s.fill.mark s.fill.size s.bytes c.fill.new.self l low o.within o.room e;
+      blocks = sealed_blocks s.fill.mark s.fill.size s.bytes c.fill.new.self l low o.within o.room e;
+    })
