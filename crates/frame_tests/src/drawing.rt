@@ -14,9 +14,13 @@ fn one_x() -> Result<OneX, Refusal> {
     Ok(OneX::new(Levels::new(Depth::Eight, 4, 40)?))
 }
 
+fn spot() -> Result<Sending, Refusal> {
+    Sending::cut(7, 3, b"spot 17", Room::OneX)
+}
+
 // A sealed frame of so many bytes, with one block of a message.
 fn sealed(size: usize) -> Result<SealedFrame, Refusal> {
-    let sending = Sending::cut(7, 3, b"spot 17", Room::OneX)?;
+    let sending = spot()?;
     let wanted = Wanted {
         sending: &sending,
         block: 0,
@@ -33,9 +37,7 @@ fn comes_back<L: LineSystem>(rt: &impl Abort, system: &L, frame: &SealedFrame) {
     assert_eq!(rt; frame.draw(system, &mut line), Ok(()));
     let payload = frame.payload();
     assert_eq!(rt; system.read(&line, &mut found), Ok(Some(payload.len())));
-    for (i, byte) in payload.iter().enumerate() {
-        assert_eq!(rt; found.get(i).copied(), Some(*byte));
-    }
+    assert!(rt; found.starts_with(payload));
 }
 
 #[test]
@@ -54,9 +56,7 @@ fn is_refused<L: LineSystem>(rt: &impl Abort, system: &L, size: usize) -> Result
         frame.draw(system, &mut line[0..239]),
         Err(Refusal::SampleCount(239))
     );
-    for sample in line {
-        assert_eq!(rt; sample, 7);
-    }
+    assert_eq!(rt; line, [7; 240]);
     Ok(())
 }
 
@@ -73,7 +73,7 @@ fn lengths_that_are_not_drawn(rt: HostRuntime) -> Result<(), Fail> {
 
 #[test]
 fn marked_and_read_back(rt: HostRuntime) -> Result<(), Fail> {
-    let sending = Sending::cut(7, 3, b"spot 17", Room::OneX)?;
+    let sending = spot()?;
     let wanted = Wanted {
         sending: &sending,
         block: 0,

@@ -4,6 +4,15 @@ use refusal::Refusal;
 use sending::{Room, Sending};
 use std::test::Fail;
 
+fn short() -> Result<Sending, Refusal> {
+    Sending::cut(1, 2, &[0x10, 0x11], Room::OneX)
+}
+
+// Its one block, and one above its last.
+fn wants(sending: &Sending) -> [Wanted<'_>; 2] {
+    [0, 1].map(|block| Wanted { sending, block })
+}
+
 #[test]
 fn lengths(rt: HostRuntime) {
     for size in [0usize, 1, 61, 1000] {
@@ -15,15 +24,8 @@ fn lengths(rt: HostRuntime) {
 
 #[test]
 fn whole_or_not_at_all(rt: HostRuntime) -> Result<(), Fail> {
-    let sending = Sending::cut(1, 2, &[0x10, 0x11], Room::OneX)?;
-    let right = Wanted {
-        sending: &sending,
-        block: 0,
-    };
-    let above = Wanted {
-        sending: &sending,
-        block: 1,
-    };
+    let sending = short()?;
+    let [right, above] = wants(&sending);
     let mut frame = OpenFrame::open(19)?;
     assert_eq!(rt; frame.put(&[&right, &right]), Err(Refusal::FrameEnd(1)));
     assert_eq!(rt; frame.put(&[&above, &right]), Err(Refusal::NotOfASending));
@@ -41,15 +43,8 @@ fn whole_or_not_at_all(rt: HostRuntime) -> Result<(), Fail> {
 
 #[test]
 fn list_of_groups(rt: HostRuntime) -> Result<(), Fail> {
-    let sending = Sending::cut(1, 2, &[0x10, 0x11], Room::OneX)?;
-    let right = Wanted {
-        sending: &sending,
-        block: 0,
-    };
-    let above = Wanted {
-        sending: &sending,
-        block: 1,
-    };
+    let sending = short()?;
+    let [right, above] = wants(&sending);
     let all = [&right, &right, &right, &above];
     let mut refused = [Some(Refusal::Depth); 5];
     let sealed = mark_frame(
@@ -73,11 +68,8 @@ fn list_of_groups(rt: HostRuntime) -> Result<(), Fail> {
 
 #[test]
 fn room_for_refusals(rt: HostRuntime) -> Result<(), Fail> {
-    let sending = Sending::cut(1, 2, &[0x10, 0x11], Room::OneX)?;
-    let right = Wanted {
-        sending: &sending,
-        block: 0,
-    };
+    let sending = short()?;
+    let [right, _] = wants(&sending);
     let mut refused = [Some(Refusal::Depth); 1];
     assert_eq!(rt;
         mark_frame(61, &[&[&right], &[&right]], &mut refused).err(),
