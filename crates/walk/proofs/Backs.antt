@@ -1,7 +1,7 @@
 -- Blocks of sendings are read back from their wire forms.
-use Rattle.std.proofs.Common.{◌≡◌, ℕ, zero, suc, ◌+◌, ◌-◌, ◌*◌, ◌/◌, ◌%◌, ◌^◌, ◌<◌, ◌≤◌, Bool, true, false, cond, not, ◌&&◌, eqb, ltb, List, [], ◌∷◌, ◌++◌, length, get_or, take, drop, replicate, Some, None, sym, refl, ap, ◌∙◌, subst, ⊎_elim, append_assoc, mod-eq_of_lt, arith, length-append}
+use Rattle.std.proofs.Common.{◌≡◌, ℕ, zero, suc, ◌+◌, ◌-◌, ◌*◌, ◌/◌, ◌%◌, ◌^◌, ◌<◌, ◌≤◌, Bool, true, false, cond, not, ◌&&◌, eqb, ltb, List, [], ◌∷◌, ◌++◌, length, get_or, take, drop, replicate, Some, None, sym, refl, ap, ◌∙◌, subst, append_assoc, mod-eq_of_lt, arith, length-append}
 use Rattle.std.specs.List.{flat_map, AllByRecursion}
-use Rattle.std.proofs.lemmas.Bool.{eq-eqb, ne_eqb, lt-ltb, cases_eq}
+use Rattle.std.proofs.lemmas.Bool.Decides.{nat_tests}
 use Rattle.std.proofs.lemmas.List.{take_at, drop_at}
 use Rattle.crc.specs.Crc.{crc}
 use Rattle.crc.proofs.Bounds.{crc_below}
@@ -11,7 +11,8 @@ use Rattle.sending.proofs.Rules.{numbers}
 use Rattle.walk.specs.Fields.{word, part_of, last_of, has_check, cause_at, block_at}
 use Rattle.walk.specs.Entries.{read, scan, entries, blocks_read}
 use Rattle.walk.specs.Laws.{OfASending, placed_from, ReadsSentBlocks}
-use Rattle.walk.proofs.Scans.{sound, scan_end, scan_entry, item_block, past_block}
+use Rattle.walk.proofs.Causes.{sound}
+use Rattle.walk.proofs.Scans.{scan_end, scan_entry, item_block, past_block}
 
 split_back : (w q r : ℕ) → q ≡ w / 16777216 → r ≡ q → r * 16777216 + w / 65536 % 256 * 65536 + w / 256 % 256 * 256 + w % 256 ≡ w
 split_back w q r e f = omega arith
@@ -103,7 +104,7 @@ module _ (number version part last : ℕ) (body : List ℕ) (w : ℕ) (named : 0
 
   no_cause : cause_at there ≡ 0
   no_cause =
-      sound there count_least there_length (ap crc front ∙ sym crc_right) (omega (arith, part_right, last_right))
+      sound there (record { least = count_least; within = there_length; right = ap crc front ∙ sym crc_right }) (omega (arith, part_right, last_right))
       (subst (λ t. cond t 9 5 ≤ count b) (sym has_right) count_room)
 
   block_right : block_at there ≡ b
@@ -121,25 +122,8 @@ module _ (number version part last : ℕ) (body : List ℕ) (w : ℕ) (named : 0
       ap (scan 0 p) wire_there ∙ scan_entry p there (λ e. omega arith) ∙ (λ i. (item_block p there no_cause ∙ ap (read p) block_right) i ∷ more i)
 
 -- ---- a block of a sending is such a block
-not_first : (l : ℕ) → ltb 0 l ≡ not (eqb l 0)
-not_first zero = refl
-not_first (suc l) = lt-ltb 0 (suc l) (omega arith) ∙ sym (ap not (ne_eqb (suc l) 0 (λ e. omega arith)))
-
-and_true : (t : Bool) → t && true ≡ t
-and_true true = refl
-and_true false = refl
-
-and_false : (t : Bool) → t && false ≡ false
-and_false true = refl
-and_false false = refl
-
 both_last : (i l : ℕ) → ltb 0 i && eqb i l ≡ several_last i l
-both_last i l =
-    ⊎_elim
-    (λ (e : i ≡ l). let t = eq-eqb i l e in
-    ap (λ u. ltb 0 i && u) t ∙ and_true (ltb 0 i) ∙ ap (ltb 0) e ∙ not_first l ∙ sym (ap (λ u. u && not (eqb l 0)) t))
-    (λ (n : i ≡ l → ⊥). let t = ne_eqb i l n in ap (λ u. ltb 0 i && u) t ∙ and_false (ltb 0 i) ∙ sym (ap (λ u. u && not (eqb l 0)) t))
-    (cases_eq i l)
+both_last i l = grind (arith, nat_tests)
 
 block_carries : (s : Sending) (i : ℕ) → block s i ≡ carrying s.number s.version i (last_part s) (get_or s.parts i []) (crc (message s).bytes)
 block_carries s i =

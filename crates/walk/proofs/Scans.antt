@@ -28,10 +28,6 @@ pub in_order : (bs : List ℕ) → cause_at bs ≡ 0 → part_of bs ≤ last_of 
 unfolding cause_at
 in_order bs h = grind (arith, nat_tests)
 
-pub sound : (bs : List ℕ) → 5 ≤ count_of bs → count_of bs + 2 ≤ length bs → crc (take (count_of bs - 2) bs) ≡ word (drop (count_of bs - 2) bs) → part_of bs ≤ last_of bs → least_count bs ≤ count_of bs → cause_at bs ≡ 0
-unfolding cause_at
-sound bs h5 h2 hc hp hl = grind (arith, nat_tests)
-
 some_cause : (c : Cause) → 0 < cause_number c
 some_cause Torn = omega arith
 some_cause Crc = omega arith

@@ -1,5 +1,5 @@
 -- The fields of the block with which some bytes begin, and why it isn't read.
-use Rattle.std.specs.Prelude.{ℕ, ◌+◌, ◌-◌, ◌*◌, ◌/◌, ◌%◌, Bool, cond, not, ◌&&◌, ◌||◌, List, length, take, drop, Some, None, Option, ◌==◌, nat_lt, slice_index}
+use Rattle.std.specs.Prelude.{ℕ, ◌+◌, ◌-◌, ◌*◌, ◌/◌, ◌%◌, ◌≡◌, ◌≤◌, Bool, cond, not, ◌&&◌, ◌||◌, List, length, take, drop, Some, None, Option, ◌==◌, nat_lt, slice_index}
 use Rattle.crc.specs.Crc.{crc}
 use Rattle.sending.specs.Sendings.{Block}
 use Rattle.walk.specs.declared.entry.Cause.{Cause}
@@ -44,6 +44,12 @@ cause_at bs =
     (cond (not (crc_right bs)) 2
     (cond (nat_lt (last_of bs) (part_of bs)) 3
     (cond (has_check bs && nat_lt (count_of bs) 9) 4 0)))
+
+-- the block is whole, and its CRC right
+pub record Sound (bs : List ℕ) : Type 0 where
+  pub least : 5 ≤ count_of bs
+  pub within : count_of bs + 2 ≤ length bs
+  pub right : crc (take (count_of bs - 2) bs) ≡ word (drop (count_of bs - 2) bs)
 
 -- the number of a cause
 abbrev pub cause_number : Cause → ℕ

@@ -1,4 +1,8 @@
 // What stands at one place of a payload.
+ghost use Rattle.std.specs.Prelude.{◌≡◌};
+ghost use Rattle.walk.specs.Fields.{cause_number};
+ghost use Rattle.walk.specs.Entries.{finishes};
+
 use sending::Block;
 
 // Why a block isn't read, in the order of the tests.
@@ -14,8 +18,29 @@ pub enum Cause {
     Short,
 }
 
+impl Cause {
+    // The number by which the cause is known outside.
+    pub fn number(self) -> u8
+        ensures answer { result ≡ cause_number self }
+    {
+        match self {
+            Cause::Torn => 1,
+            Cause::Crc => 2,
+            Cause::Part => 3,
+            Cause::Short => 4,
+        }
+    }
+
+    // Whether it finishes the line: nothing then tells where a next block would begin.
+    pub(crate) fn ends_line(self) -> bool
+        ensures { result ≡ finishes (cause_number self) }
+    {
+        matches!(self, Cause::Torn | Cause::Crc)
+    }
+}
+
 // A block that is read, or a fault. It borrows the payload's bytes.
-#[derive(Clone, Copy)]
+#[derive(Clone, Copy, PartialEq, Eq, Debug)]
 pub enum Entry<'a> {
     Block {
         place: usize,

@@ -4,6 +4,7 @@
 
 mod entry;
 mod parse;
+mod steps;
 mod walk;
 
 pub use entry::{Cause, Entry};
