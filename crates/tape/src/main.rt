@@ -4,9 +4,8 @@
 mod blocks;
 mod bodies;
 mod lines;
-mod print;
 
-fn main(rt: HostRuntime) -> Result<(), anyhow::Error> {
+fn main(rt: HostRuntime) -> anyhow::Result<()> {
     lines::show(&rt)?;
     println!(rt; "")?;
     blocks::show(&rt)?;

@@ -1,0 +1,54 @@
+// How bytes, text and blocks are printed.
+use sending::Block;
+use std::fmt;
+
+// Bytes as capital hexadecimal digits, each after a blank.
+#[derive(Clone, Copy)]
+pub struct Hex<'a>(pub &'a [u8]);
+
+impl fmt::Display for Hex<'_> {
+    fn fmt<W: fmt::Write>(&self, f: &mut fmt::Formatter<W>) -> fmt::Result {
+        for byte in self.0 {
+            write!(f, " {byte:02X}")?;
+        }
+        Ok(())
+    }
+}
+
+// Bytes as characters; one that can't be printed as a point.
+#[derive(Clone, Copy)]
+pub struct Text<'a>(pub &'a [u8]);
+
+impl fmt::Display for Text<'_> {
+    fn fmt<W: fmt::Write>(&self, f: &mut fmt::Formatter<W>) -> fmt::Result {
+        for byte in self.0 {
+            let c = match byte {
+                b' '..=b'~' => char::from(*byte),
+                _ => '.',
+            };
+            write!(f, "{c}")?;
+        }
+        Ok(())
+    }
+}
+
+// What a block says of its part.
+#[derive(Clone, Copy)]
+pub struct Head<'a>(pub Block<'a>);
+
+impl fmt::Display for Head<'_> {
+    fn fmt<W: fmt::Write>(&self, f: &mut fmt::Formatter<W>) -> fmt::Result {
+        let Block {
+            number,
+            version,
+            part,
+            last,
+            body: _,
+            check: _,
+        } = self.0;
+        write!(
+            f,
+            "number {number:>3} version {version:>2} part {part} last {last}"
+        )
+    }
+}
