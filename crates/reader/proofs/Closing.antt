@@ -1,9 +1,9 @@
 -- A line that was followed: its tray is finished, and what is answered for it.
 use Rattle.std.proofs.Common.{◌≡◌, ℕ, ◌≤◌, List, length, Some, None, Option, ◌∙◌, subst, arith}
+use Rattle.std.specs.Option.{unwrap_or}
 use Rattle.gather.specs.Arriving.{Table}
 use Rattle.tray.specs.Trays.{Fault, IsTray}
 use Rattle.tray.specs.Writing.{Finishes, Whole}
-use Rattle.tray.specs.Model.{fault_list}
 use Rattle.tray.proofs.Backs.{short}
 use Rattle.reader.specs.Following as value
 use Rattle.reader.specs.Offers.{found_length, used_part}
@@ -19,7 +19,7 @@ makes_tray old tray g T p l =
 
 -- and is finished to it
 pub finished : (old tray tray' : List ℕ) (g : Progress) (T : Table) (p : value.Progress) (end : Option ℕ) →
-    Finishes tray g.messages g.at (fault_list g.faults) end tray' → LineStands old tray g T p → 1630 ≤ length old →
+    Finishes tray g.messages g.at g.faults end tray' → LineStands old tray g T p → 1630 ≤ length old →
     Whole old p.messages p.faults end tray'
 finished old tray tray' g T p end whole l wide =
     let s = l.stands in
@@ -27,8 +27,8 @@ finished old tray tray' g T p end whole l wide =
     let at_faults = subst (λ (fs : List Fault). Finishes tray g.messages g.at fs end tray') s.faults_are whole in
     at_faults old p.messages s.tray_is s.count_is s.at_is (omega arith)
 
-pub closes : (seen : Option (List ℕ)) (old tray tray' : List ℕ) (g : Progress) (T : Table) (p : value.Progress) (used : ℕ) (a : Answer) →
-    Finishes tray g.messages g.at (fault_list g.faults) (Some used) tray' → LineStands old tray g T p → 1630 ≤ length old →
+closes : (seen : Option (List ℕ)) (old tray tray' : List ℕ) (g : Progress) (T : Table) (p : value.Progress) (used : ℕ) (a : Answer) →
+    Finishes tray g.messages g.at g.faults (Some used) tray' → LineStands old tray g T p → 1630 ≤ length old →
     a.length ≡ found_length seen → a.used ≡ used → a.skipped ≡ g.skipped →
     Taken seen old tray' a T p
 closes seen old tray tray' g T p used a whole l wide long used_is skipped_is =
@@ -42,10 +42,18 @@ closes seen old tray tray' g T p used a whole l wide long used_is skipped_is =
     }
 
 -- there is always room
-pub never_short : (old tray tray' : List ℕ) (g : Progress) (T : Table) (p : value.Progress) →
-    Finishes tray g.messages g.at (fault_list g.faults) None tray' → LineStands old tray g T p → 1630 ≤ length old → ⊥
+never_short : (old tray tray' : List ℕ) (g : Progress) (T : Table) (p : value.Progress) →
+    Finishes tray g.messages g.at g.faults None tray' → LineStands old tray g T p → 1630 ≤ length old → ⊥
 never_short old tray tray' g T p whole l wide =
     let w = finished old tray tray' g T p None whole l wide in
     let e = w.used in
     let z : ◌≡◌ {A = ℕ} 0 1 = cc in
     omega arith
+
+-- so whatever the writing answered, that much is used
+pub closed : (seen : Option (List ℕ)) (old tray tray' : List ℕ) (g : Progress) (T : Table) (p : value.Progress) (end : Option ℕ) (a : Answer) →
+    Finishes tray g.messages g.at g.faults end tray' → LineStands old tray g T p → 1630 ≤ length old →
+    a.length ≡ found_length seen → a.used ≡ unwrap_or end 0 → a.skipped ≡ g.skipped →
+    Taken seen old tray' a T p
+closed seen old tray tray' g T p (Some used) a whole l wide long used_is skipped_is = closes seen old tray tray' g T p used a whole l wide long used_is skipped_is
+closed seen old tray tray' g T p None a whole l wide long used_is skipped_is = absurd (never_short old tray tray' g T p whole l wide)

@@ -5,14 +5,13 @@ use Rattle.buffers.proofs.Lays.{laid_none}
 use Rattle.walk.specs.Entries.{Item, read, fault, blocks_read}
 use Rattle.gather.specs.Gathering.{Answer, silent, handed, faulty}
 use Rattle.gather.specs.Arriving.{Table, watched, answer_to}
-use Rattle.tray.specs.Model.{fault_list}
 use Rattle.reader.specs.Following as value
 use Rattle.reader.specs.Following.{message_in, fault_in, block_fault, follow, follow_all, at_start}
 use Rattle.reader.specs.Stands.{Stands, Room, LineStands}
 use Rattle.reader.specs.declared.progress.Progress.{Progress}
 
 -- before the first entry
-pub begins : (old : List ℕ) (g : Progress) (T : Table) → g.at ≡ 1 → g.messages ≡ 0 → g.skipped ≡ 0 → fault_list g.faults ≡ [] → Stands old old g T (at_start T)
+pub begins : (old : List ℕ) (g : Progress) (T : Table) → g.at ≡ 1 → g.messages ≡ 0 → g.skipped ≡ 0 → g.faults ≡ [] → Stands old old g T (at_start T)
 begins old g T at count skipped faults =
     record { table_is = refl; tray_is = sym (laid_none old 1); at_is = at; count_is = count; faults_are = faults; skipped_is = skipped; messages_stand = tt; faults_stand = tt }
 

@@ -10,7 +10,6 @@ use Rattle.gather.specs.Watching.{fits_slot}
 use Rattle.gather.specs.Serving.{next_table}
 use Rattle.tray.specs.Trays.{Fault, IsMessage, IsFault}
 use Rattle.tray.specs.Writing.{holding, behind, fault_more}
-use Rattle.tray.specs.Model.{fault_list}
 use Rattle.reader.specs.Following as value
 use Rattle.reader.specs.Following.{message_in, block_fault, message_fault, fault_in, follow}
 use Rattle.reader.specs.Entered.{Good}
@@ -22,7 +21,7 @@ use Rattle.reader.proofs.Handing.{behind_more, behind_most, every_more}
 after_block : (w : List ℕ) (t place : ℕ) (b : Block) (old tray' : List ℕ) (g' : Progress) (T T' : Table) (p : value.Progress) (a : Answer) →
     T ≡ p.table → fits_slot b ≡ true → T' ≡ next_table w t b T → answer_to w t b p.table ≡ a →
     tray' ≡ holding old (p.messages ++ message_in a) → g'.at ≡ behind (p.messages ++ message_in a) → g'.messages ≡ length (p.messages ++ message_in a) →
-    fault_list g'.faults ≡ p.faults ++ fault_in place b.number a → g'.skipped ≡ p.skipped + cond (watched w b.number) 0 1 →
+    g'.faults ≡ p.faults ++ fault_in place b.number a → g'.skipped ≡ p.skipped + cond (watched w b.number) 0 1 →
     AllByRecursion IsMessage (p.messages ++ message_in a) → AllByRecursion IsFault (p.faults ++ fault_in place b.number a) →
     Stands old tray' g' T' (follow w t (read place b) p)
 after_block w t place b old tray' g' T T' p a same fits next answered tray at count faults skipped messages_stand faults_stand =
@@ -41,7 +40,7 @@ after_block w t place b old tray' g' T T' p a same fits next answered tray at co
 -- nothing came of it, or its number isn't watched
 pub told_nothing : (w : List ℕ) (t place : ℕ) (b : Block) (old tray : List ℕ) (g g' : Progress) (T T' : Table) (p : value.Progress) →
     Stands old tray g T p → fits_slot b ≡ true → T' ≡ next_table w t b T → answer_to w t b p.table ≡ silent →
-    g'.at ≡ g.at → g'.messages ≡ g.messages → fault_list g'.faults ≡ fault_list g.faults → g'.skipped ≡ g.skipped + cond (watched w b.number) 0 1 →
+    g'.at ≡ g.at → g'.messages ≡ g.messages → g'.faults ≡ g.faults → g'.skipped ≡ g.skipped + cond (watched w b.number) 0 1 →
     Stands old tray g' T' (follow w t (read place b) p)
 told_nothing w t place b old tray g g' T T' p s fits next quiet at count faults skipped =
     let no_more = sym (append-nil p.messages) in
@@ -58,7 +57,7 @@ fault_added fs f h = cond-true (ltb (length fs) 9) (fs ++ f ∷ []) fs (lt-ltb _
 -- the joined parts failed their check
 pub told_fault : (w : List ℕ) (t place : ℕ) (b : Block) (old tray : List ℕ) (g g' : Progress) (T T' : Table) (p : value.Progress) →
     Good (read place b) → Room old (read place b) p → Stands old tray g T p → fits_slot b ≡ true → T' ≡ next_table w t b T → answer_to w t b p.table ≡ faulty → watched w b.number ≡ true →
-    g'.at ≡ g.at → g'.messages ≡ g.messages → fault_list g'.faults ≡ fault_more (fault_list g.faults) (message_fault place b.number) → g'.skipped ≡ g.skipped →
+    g'.at ≡ g.at → g'.messages ≡ g.messages → g'.faults ≡ fault_more g.faults (message_fault place b.number) → g'.skipped ≡ g.skipped →
     Stands old tray g' T' (follow w t (read place b) p)
 told_fault w t place b old tray g g' T T' p good room s fits next failed heard at count faults skipped =
     let no_more = sym (append-nil p.messages) in
@@ -92,7 +91,7 @@ told_message w t place b old tray tray' g g' T T' p m good room s fits next give
 -- a fault of the walk
 pub told_entry_fault : (w : List ℕ) (t place cause number : ℕ) (old tray : List ℕ) (g g' : Progress) (T : Table) (p : value.Progress) →
     Good (fault place cause number) → Room old (fault place cause number) p → Stands old tray g T p →
-    g'.at ≡ g.at → g'.messages ≡ g.messages → fault_list g'.faults ≡ fault_more (fault_list g.faults) (block_fault place cause number) → g'.skipped ≡ g.skipped →
+    g'.at ≡ g.at → g'.messages ≡ g.messages → g'.faults ≡ fault_more g.faults (block_fault place cause number) → g'.skipped ≡ g.skipped →
     Stands old tray g' T (follow w t (fault place cause number) p)
 told_entry_fault w t place cause number old tray g g' T p good room s at count faults skipped =
     let f = block_fault place cause number in

@@ -3,28 +3,33 @@ use Rattle.std.specs.Prelude.{ℕ, List, take, Some, None, Ok, Err, Option, Resu
 use Rattle.refusal.specs.declared.Refusal.{Refusal}
 use Rattle.refusal.specs.declared.Refusal.TheVariants.{WatchList, Tray}
 use Rattle.buffers.specs.Places.{unless}
-use Rattle.line.specs.declared.depth.Depth.{Depth}
 use Rattle.sending.specs.Sendings.{Message}
 use Rattle.gather.specs.Model.{watching, gathered}
 use Rattle.gather.specs.Watching.{Watchable}
 use Rattle.tray.specs.Trays.{Fault, IsTray}
 use Rattle.tray.specs.Reading.{tray_fault}
 use Rattle.tray.specs.Laws.{ReadAs}
-use Rattle.runs.specs.Pasts.{Setting, Figures}
+use Rattle.system.specs.declared.system.LineSystem.{Ghosts}
+use Rattle.runs.specs.Pasts.{Setting, Figures, Call, Outcome}
 use Rattle.runs.specs.Reaching.{State, new}
 use Rattle.reader.specs.Following.{Progress}
+use Rattle.reader.specs.Marks.{Keeps}
 use Rattle.reader.specs.Settings.{setting_of}
 use Rattle.reader.specs.Offers.{figures, tray_after, offer_answer, offer_tray, offer_state, line_progress, state_after}
 use Rattle.reader.specs.declared.reader.Answer.{Answer}
 use Rattle.reader.specs.declared.reader.Reader.{Reader}
 
 -- what is fixed for a reader, by what its system means: its depth and what it finds in each line
-abbrev pub setting : {L : Type 0} → (L → Depth) → (L → List ℕ → Option (List ℕ)) → Reader L → Setting
-setting depth found r = setting_of (depth r.system) (found r.system) (watching r.table)
+abbrev pub setting : {L : Type 0} → Ghosts L → Reader L → Setting
+setting s r = setting_of (s.depth r.system) (s.found r.system) (watching r.memory.table)
 
 -- what a reader has gathered, and the frame number below which it takes no offer
 abbrev pub state : {L : Type 0} → Reader L → State
-state r = record { gathered = gathered r.table; floor = r.floor }
+state r = record { gathered = gathered r.memory.table; floor = r.memory.floor }
+
+-- what a call on a reader promises, over a system that means this
+abbrev pub KeepsThePromise : {L : Type 0} → Ghosts L → Reader L → Call → Outcome → State → Type 0
+KeepsThePromise s r = Keeps (setting s r) (s.draws r.system) (s.drawn r.system) (s.tolerates r.system) (s.carries r.system) (state r)
 
 module _ (s : Setting) (before : State) (t : ℕ) (line old : List ℕ) where
   -- the refusal due to an offer of a line at frame t with this tray, if any
@@ -58,7 +63,7 @@ WritesTray (Err e) tray p = Unit {0}
 
 -- a new reader, by its system, its watch list and its state
 abbrev pub made_of : {L : Type 0} → Result (Reader L) Refusal → Result (L × List ℕ × State) Refusal
-made_of (Ok r) = Ok (r.system, watching r.table, state r)
+made_of (Ok r) = Ok (r.system, watching r.memory.table, state r)
 made_of (Err e) = Err e
 
 -- what is answered where a reader is wanted: a refusal at the watch list's fault, else a reader that has gathered nothing

@@ -6,7 +6,6 @@ use Rattle.walk.specs.Entries.{Item, read, fault}
 use Rattle.gather.specs.Arriving.{Table}
 use Rattle.tray.specs.Trays.{IsMessage, IsFault}
 use Rattle.tray.specs.Writing.{holding, behind}
-use Rattle.tray.specs.Model.{fault_list}
 use Rattle.reader.specs.Following as value
 use Rattle.reader.specs.declared.progress.Progress.{Progress}
 
@@ -16,7 +15,7 @@ pub record Stands (old tray : List ℕ) (g : Progress) (table : Table) (p : valu
   pub tray_is : tray ≡ holding old p.messages
   pub at_is : g.at ≡ behind p.messages
   pub count_is : g.messages ≡ length p.messages
-  pub faults_are : fault_list g.faults ≡ p.faults
+  pub faults_are : g.faults ≡ p.faults
   pub skipped_is : g.skipped ≡ p.skipped
   pub messages_stand : AllByRecursion IsMessage p.messages
   pub faults_stand : AllByRecursion IsFault p.faults
@@ -36,7 +35,7 @@ pub record Room (old : List ℕ) (i : Item) (p : value.Progress) : Type 0 where
 pub record HandsOver (tray : List ℕ) (g : Progress) (m : Message) (tray' : List ℕ) (g' : Progress) : Type 0 where
   pub stands : (old : List ℕ) (ms : List Message) → tray ≡ holding old ms → g.at ≡ behind ms → g.messages ≡ length ms → length ms < 8 → behind (ms ++ m ∷ []) ≤ length old → length m.bytes ≤ 200
       → (tray' ≡ holding old (ms ++ m ∷ [])) × (g'.at ≡ behind (ms ++ m ∷ [])) × (g'.messages ≡ length (ms ++ m ∷ []))
-  pub faults_stay : fault_list g'.faults ≡ fault_list g.faults
+  pub faults_stay : g'.faults ≡ g.faults
   pub skipped_stays : g'.skipped ≡ g.skipped
 
 -- a line has been followed: what stands in memory, and the tray can be finished

@@ -5,10 +5,9 @@ ghost use Rattle.gather.specs.Serving.{held_for};
 ghost use Rattle.gather.specs.Watching.{watch_fault};
 ghost use Rattle.runs.specs.Pasts.{restart as Restart, restarts};
 ghost use Rattle.runs.specs.Reaching.{new as Fresh, Reached};
-ghost use Rattle.reader.specs.Calls.{setting, state, made_of, making, Watches};
-ghost use Rattle.reader.specs.Marks.{Keeps};
+ghost use Rattle.reader.specs.Calls.{setting, state, KeepsThePromise, made_of, making, Watches};
 
-use super::reader::Reader;
+use super::reader::{Memory, Reader};
 use gather::Table;
 use refusal::Refusal;
 use system::system::LineSystem;
@@ -19,16 +18,13 @@ impl<L: LineSystem + Drop> Reader<L> {
     pub fn new(system: L, watch: &[u8]) -> Result<Reader<L>, Refusal>
         ensures answer { made_of result ≡ making system watch.now (watch_fault watch.now) }
         ensures list_can_be_watched { Watches watch.now result }
-        ensures has_no_past { IfOk result (λ reader. Reached (setting L.LineSystem.depth L.LineSystem.found reader) [] (state reader)) }
+        ensures has_no_past { IfOk result (λ reader. Reached (setting L.LineSystem reader) [] (state reader)) }
     {
-        match Table::new(watch) {
-            Ok(table) => Ok(Reader {
-                system,
-                table,
-                floor: 0,
-            }),
-            Err(refusal) => Err(refusal),
-        }
+        let table = Table::new(watch)?;
+        Ok(Reader {
+            system,
+            memory: Memory { table, floor: 0 },
+        })
     }
 }
 
@@ -36,17 +32,17 @@ impl<L: LineSystem> Reader<L> {
     // Drops all parts and forgets the frame number: the next offer may have any.
     pub fn restart(&mut self)
         ensures next { state self.new ≡ Fresh }
-        ensures same { (self.new.system ≡ self.old.system) × (watching self.new.table ≡ watching self.old.table) }
-        ensures keeps_the_promise { Keeps (setting L.LineSystem.depth L.LineSystem.found self.old) (L.LineSystem.draws self.old.system) (L.LineSystem.drawn self.old.system) (L.LineSystem.tolerates self.old.system) (L.LineSystem.carries self.old.system) (state self.old) Restart restarts (state self.new) }
+        ensures same { (self.new.system ≡ self.old.system) × (watching self.new.memory.table ≡ watching self.old.memory.table) }
+        ensures keeps_the_promise { KeepsThePromise L.LineSystem self.old Restart restarts (state self.new) }
     {
-        self.table.clear();
-        self.floor = 0;
+        self.memory.table.clear();
+        self.memory.floor = 0;
     }
 
     // How many parts are held for a number, or none where it isn't watched.
     pub fn held(&self, number: u8) -> Option<usize>
-        ensures answer { result ≡ held_for (watching self.now.table) (state self.now).gathered number }
+        ensures answer { result ≡ held_for (watching self.now.memory.table) (state self.now).gathered number }
     {
-        self.table.held(number)
+        self.memory.table.held(number)
     }
 }

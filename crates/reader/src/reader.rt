@@ -13,11 +13,17 @@ pub struct Answer {
     pub skipped: usize,
 }
 
-// A reader of lines by one line system, which gathers the blocks of the numbers it watches.
-#[derive(Drop)]
-pub struct Reader<L: LineSystem> {
-    pub(crate) system: L,
+// What a reader keeps from one offer to the next.
+#[derive(Debug, Drop)]
+pub struct Memory {
     pub(crate) table: Table,
     // the frame number of the last offer taken, below which none is taken; 0 where none was
     pub(crate) floor: u64,
+}
+
+// A reader of lines by one line system, which gathers the blocks of the numbers it watches.
+#[derive(Debug, Drop)]
+pub struct Reader<L: LineSystem> {
+    pub(crate) system: L,
+    pub(crate) memory: Memory,
 }

@@ -7,49 +7,42 @@ ghost use Rattle.reader.specs.Offers.{found_length};
 ghost use Rattle.reader.specs.Stands.{LineStands};
 ghost use Rattle.reader.specs.Answers.{seen, Taken};
 
-use super::payload::follow_line;
 use super::progress::Progress;
-use super::reader::Answer;
-use gather::Table;
+use super::reader::{Answer, Memory};
 use tray::finish;
 
-// Finishes the tray of a line that was followed, and answers for it.
-fn close(found: usize, progress: Progress, tray: &mut [u8]) -> Answer
-    ensures { (seen : Option (List ℕ)) (old : List ℕ) (T : Gathered) (p : Followed) → LineStands old tray.old progress T p → 1630 ≤ long old → found ≡ found_length seen → Taken seen old tray.new result T p }
-{
-    let skipped = progress.skipped;
-    match finish(tray, progress.messages, progress.at, &progress.faults) {
-        Some(used) => Answer {
+impl Progress {
+    // Finishes the tray of a line that was followed, and answers for it.
+    fn close(self, found: usize, tray: &mut [u8]) -> Answer
+        ensures { (seen : Option (List ℕ)) (old : List ℕ) (T : Gathered) (p : Followed) → LineStands old tray.old self T p → 1630 ≤ long old → found ≡ found_length seen → Taken seen old tray.new result T p }
+    {
+        Answer {
             length: found,
-            used,
-            skipped,
-        },
-        None => Answer {
-            length: found,
-            used: 0,
-            skipped,
-        },
+            used: finish(tray, self.messages, self.at, &self.faults).unwrap_or(0),
+            skipped: self.skipped,
+        }
     }
 }
 
-// Takes a line in which so many bytes of the payload buffer were found, or no run-in.
-pub(crate) fn take_line(
-    table: &mut Table,
-    frame: u64,
-    found: Option<usize>,
-    payload: &[u8; 60],
-    tray: &mut [u8],
-) -> Answer
-    requires within { IfSome found (λ n. n ≤ 60) }
-    requires room { 1630 ≤ long tray.old }
-    ensures taken { Taken (seen found payload.now) tray.old tray.new result (gathered table.new) (followed (watching table.old) frame (seen found payload.now) (gathered table.old)) }
-    ensures same { watching table.new ≡ watching table.old }
-{
-    match found {
-        Some(n) => {
-            let progress = follow_line(table, frame, &payload[0..n], tray);
-            close(n, progress, tray)
+impl Memory {
+    // Takes a line in which so many bytes of the payload buffer were found, or no run-in.
+    pub(crate) fn take_line(
+        &mut self,
+        found: Option<usize>,
+        payload: &[u8; 60],
+        tray: &mut [u8],
+    ) -> Answer
+        requires within { IfSome found (λ n. n ≤ 60) }
+        requires room { 1630 ≤ long tray.old }
+        ensures taken { Taken (seen found payload.now) tray.old tray.new result (gathered self.new.table) (followed (watching self.old.table) self.old.floor (seen found payload.now) (gathered self.old.table)) }
+        ensures same { (watching self.new.table ≡ watching self.old.table) × (self.new.floor ≡ self.old.floor) }
+    {
+        match found {
+            Some(n) => {
+                let progress = self.follow_line(&payload[..n], tray);
+                progress.close(n, tray)
+            }
+            None => Progress::new().close(0, tray),
         }
-        None => close(0, Progress::new(), tray),
     }
 }

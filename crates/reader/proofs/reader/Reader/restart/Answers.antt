@@ -19,5 +19,5 @@ returns g c =
     record {
       next = is;
       same = (refl {a = s}, c.clear.ensures.same);
-      keeps_the_promise = keeps (L.depth s) (L.found s) (watching r.table) (L.draws s) (L.drawn s) (L.tolerates s) (L.carries s) (law.reading s) carry (state r) restart restarts after is;
+      keeps_the_promise = keeps (L.depth s) (L.found s) (watching r.memory.table) (L.draws s) (L.drawn s) (L.tolerates s) (L.carries s) (law.reading s) carry (state r) restart restarts after is;
     }

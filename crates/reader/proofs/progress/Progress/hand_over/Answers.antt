@@ -3,7 +3,7 @@ use Rattle.std.proofs.lemmas.List.{length_push}
 use Rattle.sending.specs.Sendings.{Message}
 use Rattle.tray.specs.Trays.{message_bytes}
 use Rattle.reader.proofs.Handing.{behind_more, message_fits, holding_length}
-use Rattle.reader.proofs.follow.hand_over.Goals as goal
+use Rattle.reader.proofs.progress.Progress.hand_over.Goals as goal
 
 pub returns-in-Some : goal.returns-in-Some
 returns-in-Some c =
@@ -13,11 +13,11 @@ returns-in-Some c =
         stands = λ old ms is at count few room short.
             let more = behind_more ms m in
             let long = ap length is ∙ holding_length old ms (omega arith) in
-            let fits = message_fits m c.args.progress.now.at (length c.args.tray.now) short (omega arith) in
-            let said : Some c.in-Some.end ≡ Some (c.args.progress.now.at + length (message_bytes m)) = c.in-Some.ensures.answer ∙ fits in
-            let end : c.in-Some.end ≡ c.args.progress.now.at + length (message_bytes m) = cc in
+            let fits = message_fits m c.args.self.now.at (length c.args.tray.now) short (omega arith) in
+            let said : Some c.in-Some.end ≡ Some (c.args.self.now.at + length (message_bytes m)) = c.in-Some.ensures.answer ∙ fits in
+            let end : c.in-Some.end ≡ c.args.self.now.at + length (message_bytes m) = cc in
             let push = length_push ms m in
-            let sum = c.saturating_add-progress.ensures in
+            let sum = c.saturating_add-self.ensures in
             (c.put_message.ensures.stands_behind old ms is at short room, omega arith, omega arith);
         faults_stay = refl;
         skipped_stays = refl;
@@ -32,7 +32,7 @@ returns-in_default c =
         stands = λ old ms is at count few room short.
             let more = behind_more ms m in
             let long = ap length is ∙ holding_length old ms (omega arith) in
-            let fits = message_fits m c.args.progress.now.at (length c.args.tray.now) short (omega arith) in
+            let fits = message_fits m c.args.self.now.at (length c.args.tray.now) short (omega arith) in
             absurd (c.in_default.not-Some _ (c.put_message.ensures.answer ∙ fits));
         faults_stay = refl;
         skipped_stays = refl;
