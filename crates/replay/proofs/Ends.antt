@@ -15,13 +15,13 @@ use Rattle.replay.specs.Replaying.{plain, call_of, goes_to, run, Alike}
 pub record Made {L : Type 0} (system : L) (watch : List ℕ) (fault : Option ℕ) (reader : Reader L) : Type 0 where
   pub no_fault : fault ≡ None
   pub system_is : reader.system ≡ system
-  pub watch_is : watching reader.table ≡ watch
+  pub watch_is : watching reader.memory.table ≡ watch
   pub state_is : state reader ≡ new
 
 pub made : {L : Type 0} (system : L) (watch : List ℕ) (fault : Option ℕ) (reader : Reader L) → made_of (Ok reader) ≡ making system watch fault → Made system watch fault reader
 made system watch (Some place) reader e = let z : ◌≡◌ {A = ℕ} 0 1 = cc in absurd (omega arith)
 made {L} system watch None reader e =
-    let parts : ◌≡◌ {A = L × List ℕ × State} (reader.system, watching reader.table, state reader) (system, watch, new) = cc in
+    let parts : ◌≡◌ {A = L × List ℕ × State} (reader.system, watching reader.memory.table, state reader) (system, watch, new) = cc in
     record {
       no_fault = refl;
       system_is = ap (λ (t : L × List ℕ × State). t.0) parts;

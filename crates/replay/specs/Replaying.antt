@@ -1,7 +1,8 @@
 -- What a list of calls on one reader comes to, and the past that it makes.
-use Rattle.std.specs.Prelude.{◌≡◌, ℕ, List, [], ◌∷◌, Some, None, Ok, Err, vec_items, Option, Result}
+use Rattle.std.specs.Prelude.{◌≡◌, ℕ, List, [], ◌∷◌, ◌++◌, codes, Some, None, Ok, Err, vec_items, Option, Result}
 use Rattle.refusal.specs.declared.Refusal.{Refusal}
 use Rattle.refusal.specs.declared.Refusal.TheVariants.{WatchList}
+use Rattle.refusal.specs.Refusals.{refusal_text}
 use Rattle.runs.specs.Pasts as past
 use Rattle.runs.specs.Pasts.{offer, restart, Figures, refuses, answers, restarts, Past, Setting}
 use Rattle.runs.specs.Reaching.{State, new}
@@ -77,3 +78,8 @@ Refuses (Some place) (Err Memory) = ⊥
 Refuses None (Ok v) = Unit {0}
 Refuses None (Err (Watch e)) = ⊥
 Refuses None (Err Memory) = Unit {0}
+
+-- why a list of calls was not replayed, as it is printed
+abbrev pub replay_text : ReplayError → List ℕ
+replay_text (Watch e) = codes "watch list refused: " ++ refusal_text e
+replay_text Memory = codes "no memory for the outcomes"

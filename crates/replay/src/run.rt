@@ -20,8 +20,8 @@ fn apply_all<L: LineSystem>(
     reader: &mut Reader<L>,
     calls: &[Call<'_>],
 ) -> Result<Vec<Outcome>, AllocError>
-    ensures outcomes { IfOk result (λ v. map plain v.items ≡ run (setting L.LineSystem.depth L.LineSystem.found reader.old) (state reader.old) calls.now) }
-    ensures prolongs { IfOk result (λ v. (past : Past) → Reached (setting L.LineSystem.depth L.LineSystem.found reader.old) past (state reader.old) → Reached (setting L.LineSystem.depth L.LineSystem.found reader.old) (past ++ past_of calls.now (map plain v.items)) (state reader.new)) }
+    ensures outcomes { IfOk result (λ v. map plain v.items ≡ run (setting L.LineSystem reader.old) (state reader.old) calls.now) }
+    ensures prolongs { IfOk result (λ v. (past : Past) → Reached (setting L.LineSystem reader.old) past (state reader.old) → Reached (setting L.LineSystem reader.old) (past ++ past_of calls.now (map plain v.items)) (state reader.new)) }
 {
     let mut outcomes = Vec::new(heap);
     for call in calls {
@@ -43,11 +43,6 @@ pub fn replay<L: LineSystem + Drop>(
     ensures each_answer_and_tray_byte_follows_from_the_calls { IfOk result (λ v. map plain v.items ≡ run (setting_of (L.LineSystem.depth system) (L.LineSystem.found system) watch.now) Fresh calls.now) }
     ensures keeps_the_promise { IfOk result (λ v. WholePromise (setting_of (L.LineSystem.depth system) (L.LineSystem.found system) watch.now) (L.LineSystem.draws system) (L.LineSystem.drawn system) (L.LineSystem.tolerates system) (L.LineSystem.carries system) (past_of calls.now (map plain v.items))) }
 {
-    match Reader::new(system, watch) {
-        Ok(mut reader) => match apply_all(heap, &mut reader, calls) {
-            Ok(outcomes) => Ok(outcomes),
-            Err(_) => Err(ReplayError::Memory),
-        },
-        Err(refusal) => Err(ReplayError::Watch(refusal)),
-    }
+    let mut reader = Reader::new(system, watch)?;
+    Ok(apply_all(heap, &mut reader, calls)?)
 }

@@ -16,10 +16,10 @@ pub(crate) fn apply<L: LineSystem>(
     reader: &mut Reader<L>,
     call: &Call<'_>,
 ) -> Result<Outcome, AllocError>
-    ensures outcome { IfOk result (λ o. plain o ≡ comes_to (setting L.LineSystem.depth L.LineSystem.found reader.old) (state reader.old) (call_of call.now)) }
-    ensures next { OnOk result (state reader.new ≡ goes_to (setting L.LineSystem.depth L.LineSystem.found reader.old) (state reader.old) (call_of call.now)) }
-    ensures same { OnOk result (setting L.LineSystem.depth L.LineSystem.found reader.new ≡ setting L.LineSystem.depth L.LineSystem.found reader.old) }
-    ensures prolongs { IfOk result (λ o. (past : Past) → Reached (setting L.LineSystem.depth L.LineSystem.found reader.old) past (state reader.old) → Reached (setting L.LineSystem.depth L.LineSystem.found reader.old) (past ++ past_of (call.now ∷ []) (plain o ∷ [])) (state reader.new)) }
+    ensures outcome { IfOk result (λ o. plain o ≡ comes_to (setting L.LineSystem reader.old) (state reader.old) (call_of call.now)) }
+    ensures next { OnOk result (state reader.new ≡ goes_to (setting L.LineSystem reader.old) (state reader.old) (call_of call.now)) }
+    ensures same { OnOk result (setting L.LineSystem reader.new ≡ setting L.LineSystem reader.old) }
+    ensures prolongs { IfOk result (λ o. (past : Past) → Reached (setting L.LineSystem reader.old) past (state reader.old) → Reached (setting L.LineSystem reader.old) (past ++ past_of (call.now ∷ []) (plain o ∷ [])) (state reader.new)) }
 {
     match call {
         Call::Restart => {

@@ -7,29 +7,11 @@ ghost use Rattle.rounds.specs.Rounds.{after, measured, rounds_at};
 ghost use Rattle.rounds.specs.Numbers.{in_numbers};
 
 use crate::answer::OfferReading;
-use crate::depth::stated_depth;
 use crate::run::offer_all;
 use crate::systems::new_reader;
 use line::depth::Depth;
 use reader::Answer;
 use refusal::Refusal;
-
-// An answer as the numbers that C is told.
-fn told(answer: Result<Answer, Refusal>) -> OfferReading
-    ensures { result ≡ in_numbers (answers.told answer) }
-{
-    let (refusal, place, length, used, skipped) = match answer {
-        Ok(a) => (0, 0, a.length as u64, a.used as u64, a.skipped as u64),
-        Err(refusal) => (refusal.number() as u32, refusal.place(), 0, 0, 0),
-    };
-    OfferReading {
-        refusal,
-        place,
-        length,
-        used,
-        skipped,
-    }
-}
 
 // Offers a line so many times to a new reader of a depth.
 fn offer_to_new(depth: Depth, line: &[u16], rounds: u32, tray: &mut [u8]) -> Result<Answer, Refusal>
@@ -45,7 +27,7 @@ fn offer_at(bits: u32, line: &[u16], rounds: u32, tray: &mut [u8]) -> Result<Ans
     ensures answer { answers.told result ≡ (rounds_at (depth_of bits) line.now tray.old rounds).last }
     ensures tray { tray.new ≡ (rounds_at (depth_of bits) line.now tray.old rounds).tray }
 {
-    let depth = stated_depth(bits)?;
+    let depth = Depth::try_from(bits)?;
     offer_to_new(depth, line, rounds, tray)
 }
 
@@ -61,5 +43,5 @@ pub extern "C" fn rueladle_offer_rounds(
     ensures answer { result ≡ in_numbers (rounds_at (depth_of depth) line.now tray.old rounds).last }
     ensures tray { tray.new ≡ (rounds_at (depth_of depth) line.now tray.old rounds).tray }
 {
-    told(offer_at(depth, line, rounds, tray))
+    OfferReading::from(offer_at(depth, line, rounds, tray))
 }

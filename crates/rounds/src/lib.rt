@@ -4,6 +4,5 @@
 
 pub mod answer;
 pub mod call;
-mod depth;
 mod run;
 mod systems;

@@ -15,8 +15,8 @@ pub(crate) fn offer_all<L: LineSystem>(
     rounds: u32,
     tray: &mut [u8],
 ) -> Result<Answer, Refusal>
-    ensures answer { told result ≡ (after (setting L.LineSystem.depth L.LineSystem.found reader.old) (state reader.old) line.now tray.old rounds).last }
-    ensures tray { tray.new ≡ (after (setting L.LineSystem.depth L.LineSystem.found reader.old) (state reader.old) line.now tray.old rounds).tray }
+    ensures answer { told result ≡ (after (setting L.LineSystem reader.old) (state reader.old) line.now tray.old rounds).last }
+    ensures tray { tray.new ≡ (after (setting L.LineSystem reader.old) (state reader.old) line.now tray.old rounds).tray }
 {
     let mut last = Ok(Answer {
         length: 0,

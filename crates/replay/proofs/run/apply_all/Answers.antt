@@ -12,7 +12,7 @@ loop-call-preserved g c =
     let told = c.in_ok-outcome.ensures in
     let pushed = chosen _ _ _ _ c.push.ensures.items (ap is_ok c.in_ok-push.was) in (
       told.same ∙ inv.0,
-      sofar_on (setting L.depth L.found first) (state first) c.args.calls.now (setting L.depth L.found c.loop-call.reader) inv.0 (state c.loop-call.reader) (state c.apply.new.reader) _ _ c.loop-call.call-index _ c.in_ok-outcome.outcome
+      sofar_on (setting L first) (state first) c.args.calls.now (setting L c.loop-call.reader) inv.0 (state c.loop-call.reader) (state c.apply.new.reader) _ _ c.loop-call.call-index _ c.in_ok-outcome.outcome
           c.loop-call-test.true pushed told.outcome told.next told.prolongs inv.1,
     )
 
@@ -20,5 +20,5 @@ pub returns : goal.returns
 returns g c =
     let L = g.L.LineSystem in
     let first = c.args.reader.now in
-    let all = sofar_all (setting L.depth L.found first) (state first) c.args.calls.now (state c.loop-call.reader) _ _ c.loop-call-test.false c.loop-call.invariant.1 in
+    let all = sofar_all (setting L first) (state first) c.args.calls.now (state c.loop-call.reader) _ _ c.loop-call-test.false c.loop-call.invariant.1 in
     record { outcomes = all.outcomes; prolongs = all.prolongs }

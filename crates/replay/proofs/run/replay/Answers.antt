@@ -10,20 +10,20 @@ use Rattle.replay.specs.Replaying.{plain, run, past_of, Refuses}
 use Rattle.replay.proofs.Ends.{made, alike}
 use Rattle.replay.proofs.run.replay.Goals as goal
 
-pub returns-in-Ok-apply_all : goal.returns-in-Ok-apply_all
-returns-in-Ok-apply_all g c =
+pub returns : goal.returns
+returns g c =
     let L = g.L.LineSystem in
     let law = g.met.L.LineSystem in
     let system = c.args.system in
     let watch = c.args.watch.now in
     let calls = c.args.calls.now in
-    let reader = c.in-Ok.reader in
-    let out = c.in-Ok-apply_all.outcomes in
-    let m = made system watch (watch_fault watch) reader c.in-Ok.ensures.answer in
+    let reader = c.in_ok-reader.reader in
+    let out = c.in_ok-apply_all.field-0 in
+    let m = made system watch (watch_fault watch) reader c.in_ok-reader.ensures.answer in
     let s = setting_of (L.depth system) (L.found system) watch in
-    let same : setting L.depth L.found reader ≡ s = λ i. setting_of (L.depth (m.system_is i)) (L.found (m.system_is i)) (m.watch_is i) in
-    let outcomes : map plain (vec_items out) ≡ run s new calls = c.in-Ok-apply_all.ensures.outcomes ∙ (λ i. run (same i) (m.state_is i) calls) in
-    let led = c.in-Ok-apply_all.ensures.prolongs [] m.state_is in
+    let same : setting L reader ≡ s = λ i. setting_of (L.depth (m.system_is i)) (L.found (m.system_is i)) (m.watch_is i) in
+    let outcomes : map plain (vec_items out) ≡ run s new calls = c.in_ok-apply_all.ensures.outcomes ∙ (λ i. run (same i) (m.state_is i) calls) in
+    let led = c.in_ok-apply_all.ensures.prolongs [] m.state_is in
     let reached = subst (λ (z : Setting). Reached z (past_of calls (map plain (vec_items out))) (state c.apply_all.new.reader)) same led in
     record {
       refused_just_when_due = subst (λ (o : Option _). Refuses o (Ok out)) (sym m.no_fault) tt;

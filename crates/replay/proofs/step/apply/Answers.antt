@@ -21,7 +21,7 @@ pub returns-in-Restart : goal.returns-in-Restart
 returns-in-Restart g c =
     let r = c.args.reader.now in
     let L = g.L.LineSystem in
-    let s = setting L.depth L.found r in
+    let s = setting L r in
     let call = sym c.in-Restart.is in
     let e = c.restart.ensures in
     record {
@@ -35,7 +35,7 @@ pub returns-in_ok-tray-in-Offer : goal.returns-in_ok-tray-in-Offer
 returns-in_ok-tray-in-Offer g c =
     let r = c.args.reader.now in
     let L = g.L.LineSystem in
-    let s = setting L.depth L.found r in
+    let s = setting L r in
     let t = c.in-Offer.frame in
     let line = c.in-Offer.line.now in
     let call = sym c.in-Offer.is in

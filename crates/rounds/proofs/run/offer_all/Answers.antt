@@ -14,6 +14,6 @@ loop-round-preserved g c =
     let e = c.offer-last.ensures in (
       omega arith,
       (λ i. setting_of (L.depth (e.same.0 i)) (L.found (e.same.0 i)) (e.same.1 i)) ∙ inv.1,
-      stands_on (setting L.depth L.found first) (state first) c.args.line.now c.args.tray.now c.loop-round.round (state here) c.loop-round.tray (told c.loop-round.last)
-          (setting L.depth L.found here) inv.1 (state c.offer-last.new.self) c.offer-last.new.tray (told c.offer-last.result) e.next e.tray e.answer inv.2,
+      stands_on (setting L first) (state first) c.args.line.now c.args.tray.now c.loop-round.round (state here) c.loop-round.tray (told c.loop-round.last)
+          (setting L here) inv.1 (state c.offer-last.new.self) c.offer-last.new.tray (told c.offer-last.result) e.next e.tray e.answer inv.2,
     )
