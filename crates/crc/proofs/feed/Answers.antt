@@ -16,12 +16,6 @@ table_right : TABLE ≡ map entry (range_with_len 0 256)
 unfolding entry shifted
 table_right = refl
 
-pub bounds-top : goal.bounds-top
-bounds-top c = xor_lt 8 (c.args.register / 16777216) c.args.byte (omega arith) (omega arith)
-
-pub offset_bounds-top : goal.offset_bounds-top
-offset_bounds-top c = record { fits = omega (arith, xor_lt 8 (c.args.register / 16777216) c.args.byte (omega arith) (omega arith)) }
-
 pub returns : goal.returns
 unfolding entry
 returns c =

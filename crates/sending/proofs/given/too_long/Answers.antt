@@ -1,5 +1,4 @@
 use Rattle.std.proofs.Common.{◌<◌, ◌≤◌, [], length, get_or, Some, sym, ap, ◌∙◌, arith}
-use Rattle.std.proofs.lemmas.List.{drop_all}
 use Rattle.sending.specs.Given.{part_limit, first_long, texts}
 use Rattle.sending.proofs.Givens.{long_here, long_next, text_at, texts_length, nowhere}
 use Rattle.sending.proofs.given.too_long.Goals as goal
@@ -20,9 +19,3 @@ loop-i-preserved c =
     let i : c.loop-i.i < length (texts ps) = omega (arith, texts_length ps, c.loop-i-test.true) in
     let l : length (get_or (texts ps) c.loop-i.i []) ≤ part_limit (length ps) c.loop-i.i = omega (arith, ap length t, c.if-part-limit.false, c.limit.ensures) in
     c.loop-i.invariant ∙ long_next (length ps) c.loop-i.i (texts ps) i l
-
-pub returns : goal.returns
-returns c =
-    let ps = c.args.parts.now in
-    let i : length (texts ps) ≤ c.loop-i.i = omega (arith, texts_length ps, c.loop-i-test.false) in
-    sym (ap (λ m. first_long m 0 (texts ps)) (texts_length ps) ∙ c.loop-i.invariant ∙ ap (first_long (length ps) c.loop-i.i) (drop_all c.loop-i.i (texts ps) i))
