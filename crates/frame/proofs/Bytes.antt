@@ -66,9 +66,9 @@ over_small p h =
 
 tests : (a b c : Bool) (n : ℕ) (x : Unit {0}) → Ok x ≡ cond a (cond (b && c) (Ok tt) (Err Payload)) (Err (SampleCount n)) → (a ≡ true) × (b ≡ true) × (c ≡ true)
 tests true true true n x e = (refl, refl, refl)
-tests true true false n x e = absurd (let z : ◌≡◌ {A = ℕ} 0 1 = cc in omega arith)
-tests true false c n x e = absurd (let z : ◌≡◌ {A = ℕ} 0 1 = cc in omega arith)
-tests false b c n x e = absurd (let z : ◌≡◌ {A = ℕ} 0 1 = cc in omega arith)
+tests true true false n x e = absurd (cc)
+tests true false c n x e = absurd (cc)
+tests false b c n x e = absurd (cc)
 
 -- a drawing that is not refused is of a payload that can be drawn
 pub drawable : (draws : ℕ → Bool) (p : List ℕ) (n : ℕ) (x : Unit {0}) → SealedOver p → Ok x ≡ draw_answer draws p n → (good_count n ≡ true) × Drawable draws p

@@ -53,11 +53,11 @@ pub record Marking (n old : ℕ) (start : List ℕ) (all : List (Option Refusal)
   pub holds : (bs : List Block) → Holds start bs → Holds filled (bs ++ groups_blocks n old (take i gs))
   pub noted : out ≡ groups_refusals n old (take i gs) ++ drop i all
 
-module _ (n old : ℕ) (start : List ℕ) (all : List (Option Refusal)) (gs : List (List Want)) (room : length gs ≤ length all) where
+module _ {n old : ℕ} {start : List ℕ} {all : List (Option Refusal)} {gs : List (List Want)} (room : length gs ≤ length all) where
   pub marking_none : Marking n old start all gs 0 n old start all
   marking_none = record { size_same = refl; place = omega arith; holds = λ bs h. subst (Holds start) (sym (append-nil bs)) h; noted = refl }
 
-  module _ (i size mark : ℕ) (filled : List ℕ) (out : List (Option Refusal)) (m : Marking n old start all gs i size mark filled out) where
+  module _ {i size mark : ℕ} {filled : List ℕ} {out : List (Option Refusal)} (m : Marking n old start all gs i size mark filled out) where
     pub marking_more : i < length gs → (g : List Want) → g ≡ get_or gs i g → (r : Result Unit Refusal) → r ≡ put_answer size mark 0 g
         → (size' mark' : ℕ) (filled' : List ℕ) → size' ≡ size → mark' ≡ mark + length (wires (put_blocks size mark g))
         → ((bs : List Block) → Holds filled bs → Holds filled' (bs ++ put_blocks size mark g))

@@ -56,11 +56,11 @@ blocks_more ws i w lt e = ap blocks (take_more ws i w lt) ∙ blocks_append (tak
 drop_at_w : (ws : List Want) (i : ℕ) (w : Want) → i < length ws → w ≡ get_or ws i w → drop i ws ≡ w ∷ drop (i + 1) ws
 drop_at_w ws i w lt e = drop_more ws i w lt ∙ ap (λ x. x ∷ drop (i + 1) ws) (sym e)
 
-module _ (n : ℕ) (xs : List ℕ) (old : ℕ) (ws : List Want) (room : n ≤ length xs) where
+module _ {n : ℕ} {xs : List ℕ} {old : ℕ} {ws : List Want} (room : n ≤ length xs) where
   pub going_none : old ≤ n → Going n xs old ws 0 old xs
   going_none h = record { answer = refl; before = refl; bytes = sym (laid_none xs old); place = omega arith; within = h; each = tt }
 
-  module _ (i mark : ℕ) (ys : List ℕ) (g : Going n xs old ws i mark ys) where
+  module _ {i mark : ℕ} {ys : List ℕ} (g : Going n xs old ws i mark ys) where
     pub going_back : take old ys ≡ take old xs
     going_back =
         ap (take old) g.bytes ∙ take_laid_below xs old (wires (blocks (take i ws))) old (omega arith) (omega (arith, g.place, g.within))

@@ -1,5 +1,5 @@
 -- One wanted block tried at a mark: what asking for its length, its room and its writing come to.
-use Rattle.std.proofs.Common.{◌≡◌, ℕ, ◌+◌, ◌<◌, ◌≤◌, Bool, true, false, cond, ltb, List, length, Ok, Err, Result, sym, refl, ap, ◌∙◌, arith}
+use Rattle.std.proofs.Common.{◌≡◌, ℕ, ◌+◌, ◌<◌, ◌≤◌, Bool, true, false, cond, ltb, List, length, Ok, Err, Result, sym, refl, ap, ◌∙◌}
 use Rattle.std.proofs.lemmas.Bool.{lt-ltb, le-ltb, ltb-true}
 use Rattle.refusal.specs.declared.Refusal.{Refusal}
 use Rattle.refusal.specs.declared.Refusal.TheVariants.{FrameEnd, NotOfASending}
@@ -11,14 +11,14 @@ use Rattle.frame.specs.Groups.{Want, size_of, block_of, block_answer}
 
 ok_size : (t : Bool) (x y : ℕ) (e : Refusal) → ◌≡◌ {A = Result ℕ Refusal} (Ok x) (cond t (Ok y) (Err e)) → (t ≡ true) × (x ≡ y)
 ok_size true x y e is = (refl, cc)
-ok_size false x y e is = absurd (let z : ◌≡◌ {A = ℕ} 0 1 = cc in omega arith)
+ok_size false x y e is = absurd (cc)
 
 err_size : (t : Bool) (r : Refusal) (y : ℕ) (e : Refusal) → ◌≡◌ {A = Result ℕ Refusal} (Err r) (cond t (Ok y) (Err e)) → (t ≡ false) × (r ≡ e)
-err_size true r y e is = absurd (let z : ◌≡◌ {A = ℕ} 0 1 = cc in omega arith)
+err_size true r y e is = absurd (cc)
 err_size false r y e is = (refl, cc)
 
 ok_not_err : (x : ℕ) (e : Refusal) (r : Result ℕ Refusal) → Err e ≡ r → Ok x ≡ r → ⊥
-ok_not_err x e r a b = let z : ◌≡◌ {A = ℕ} 0 1 = cc in omega arith
+ok_not_err x e r a b = cc
 
 ok_same : (x y : ℕ) (r : Result ℕ Refusal) → Ok x ≡ r → Ok y ≡ r → x ≡ y
 ok_same x y r a b = cc

@@ -42,5 +42,5 @@ impl Model for SealedFrame {
 
     ghost view = { λ f. take f.size f.bytes };
 
-    ghost invariant = { λ f. (f.size ≤ 60) × SealedOver (take f.size f.bytes) };
+    ghost invariant = { λ f. (2 ≤ f.size) × (f.size ≤ 60) × SealedOver (take f.size f.bytes) };
 }

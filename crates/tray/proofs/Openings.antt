@@ -10,7 +10,7 @@ use Rattle.tray.specs.Reading.{fault_size, messages_fault, messages_end, faults_
 
 pub none_from : (o : Option ℕ) → is_some o ≡ false → o ≡ None
 none_from None h = refl
-none_from (Some p) h = let z : ◌≡◌ {A = ℕ} 0 1 = cc in absurd (omega arith)
+none_from (Some p) h = absurd (cc)
 
 pub none_to : (o : Option ℕ) → o ≡ None → is_some o ≡ false
 none_to o h = ap is_some h
@@ -20,12 +20,12 @@ pub kept : {A B : Type 0} (r : Result A Refusal) (e why : Refusal) (o q : Option
 kept r e why (Some p) q x y h k u w =
     let b : why ≡ Tray p = cc in
     h ∙ ap Err (k ∙ b) ∙ sym (ap (λ t. unless Tray t y) (w p refl))
-kept r e why None q x y h k u w = let z : ◌≡◌ {A = ℕ} 0 1 = cc in absurd (omega arith)
+kept r e why None q x y h k u w = absurd (cc)
 
 -- what is told where nothing is wrong
 pub accepted : {A B : Type 0} (f : A → B) (r : Result A Refusal) (o : Option ℕ) (x : B) → o ≡ None → told f r ≡ unless Tray o x → (y : A) × (r ≡ Ok y) × (f y ≡ x)
 accepted {B = B} f (Ok y) o x none is = let e : ◌≡◌ {A = Result B Refusal} (Ok (f y)) (Ok x) = is ∙ ap (λ t. unless Tray t x) none in (y, refl, cc)
-accepted f (Err e) o x none is = let e : Err e ≡ Ok x = is ∙ ap (λ t. unless Tray t x) none in let z : ◌≡◌ {A = ℕ} 0 1 = cc in absurd (omega arith)
+accepted f (Err e) o x none is = let e : Err e ≡ Ok x = is ∙ ap (λ t. unless Tray t x) none in absurd (cc)
 
 -- where n faults end
 pub faults_end : (n p : ℕ) (bs : List ℕ) → row_end fault_size n p bs ≡ p + 4 * n

@@ -115,10 +115,6 @@ fault_items = row_items fault fault_bytes
 abbrev pub tray_items : List Message → List Fault → List Item
 tray_items ms fs = message_items 1 ms ++ fault_items (2 + length (flat_map message_bytes ms)) fs
 
--- the message at place p of a tray
-abbrev pub message_there : ℕ → List ℕ → Message
-message_there p t = record { number = slice_index t p; version = slice_index t (p + 1); bytes = take (slice_index t (p + 2)) (drop (p + 3) t) }
-
 -- a list, or nothing where a place is wrong
 abbrev pub right_only : {A : Type 0} → Option ℕ → List A → List A
 right_only None xs = xs

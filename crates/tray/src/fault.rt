@@ -1,12 +1,12 @@
 // Faults, and the list in which they wait for the end of an offer.
 ghost use Rattle.std.specs.Prelude.{◌≡◌, ◌≤◌, [], map, length, nat_lt};
-ghost use Rattle.tray.specs.Trays.{fault_bytes};
+ghost use Rattle.tray.specs.Trays.{fault_bytes, fault_section};
 ghost use Rattle.tray.specs.Causes.{numbers};
 ghost use Rattle.tray.specs.Said.{fault_said};
 ghost use Rattle.tray.specs.Writing.{fault_more};
 
 use super::cause::Cause;
-use super::limits::FAULTS_MOST;
+use super::limits::{FAULT, FAULTS_MOST};
 use std::marker::Model;
 
 // A fault as the four bytes that stand for it in a tray: the layer (1 block, 2 message), the cause, the number byte, the
@@ -41,7 +41,7 @@ impl Fault {
 }
 
 // At most nine faults, in the order in which they came.
-#[derive(Drop)]
+#[derive(Drop, Debug)]
 pub struct Faults {
     items: [Fault; FAULTS_MOST],
     count: usize,
@@ -82,6 +82,13 @@ impl Faults {
         ensures few { length result.now ≤ 9 }
     {
         &self.items[..self.count]
+    }
+
+    // How many bytes their section of a tray takes: their count, then each.
+    pub(crate) fn section_size(&self) -> usize
+        ensures { result ≡ length (fault_section self.now) }
+    {
+        1 + FAULT * self.as_slice().len()
     }
 
     // One more fault behind the others; a tenth is not kept. Answers whether it is kept.

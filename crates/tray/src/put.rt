@@ -1,10 +1,10 @@
 // Writing into a tray. What doesn't fit is not written, and the tray stays as it was.
-ghost use Rattle.std.specs.Prelude.{◌≡◌, ◌+◌, ◌*◌, length, nat_le};
+ghost use Rattle.std.specs.Prelude.{◌≡◌, ◌+◌, length, nat_le};
 ghost use Rattle.tray.specs.Said.{fault_said};
 ghost use Rattle.tray.specs.Writing.{message_end, message_put, fault_end, fault_put, section_end, section_put, finish_end, finish_put, Adds, Finishes};
 
 use super::fault::{Fault, Faults};
-use super::limits::{FAULT, HEAD, LENGTH_MOST};
+use super::limits::{HEAD, LENGTH_MOST};
 use buffers::lay;
 
 // Whether so many bytes fit at a place of the tray.
@@ -47,10 +47,10 @@ pub fn put_faults(tray: &mut [u8], at: usize, faults: &Faults) -> Option<usize>
     ensures answer { result ≡ section_end faults.now at (length tray.old) }
     ensures tray { tray.new ≡ section_put faults.now at tray.old }
 {
-    let faults = faults.as_slice();
-    if !has_room(tray, at, 1 + FAULT * faults.len()) {
+    if !has_room(tray, at, faults.section_size()) {
         return None;
     }
+    let faults = faults.as_slice();
     let mut end = lay(tray, at, &[faults.len() as u8])?;
     for fault in faults {
         end = lay(tray, end, &fault.bytes())?;
@@ -65,7 +65,7 @@ pub fn finish(tray: &mut [u8], messages: u8, at: usize, faults: &Faults) -> Opti
     ensures tray { tray.new ≡ finish_put messages faults.now at tray.old }
     ensures is_whole { Finishes tray.old messages at faults.now result tray.new }
 {
-    if at == 0 || !has_room(tray, at, 1 + FAULT * faults.as_slice().len()) {
+    if at == 0 || !has_room(tray, at, faults.section_size()) {
         return None;
     }
     tray[0] = messages;

@@ -6,7 +6,7 @@ ghost use Rattle.tray.specs.Steps.{messages_ahead, faults_ahead};
 use super::row::Row;
 
 // The used part of a tray, every byte of it right.
-#[derive(Clone, Copy)]
+#[derive(Clone, Copy, PartialEq, Eq, Debug)]
 pub struct Tray<'a> {
     pub(crate) bytes: &'a [u8],
     pub(crate) messages: Row,
@@ -17,7 +17,7 @@ pub struct Tray<'a> {
 }
 
 // The entries of a tray that are still to be given, in order: messages, then faults.
-#[derive(Drop)]
+#[derive(Drop, Debug)]
 pub struct Entries<'a> {
     pub(crate) bytes: &'a [u8],
     pub(crate) messages: Row,

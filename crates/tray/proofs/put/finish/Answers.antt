@@ -3,14 +3,14 @@ use Rattle.std.proofs.lemmas.Bool.{cond-true}
 use Rattle.std.proofs.lemmas.Bool.Decides.{nat_tests}
 use Rattle.tray.specs.Trays.{fault_section}
 use Rattle.tray.specs.Writing.{finish_unfit, finish_end, finish_put}
-use Rattle.tray.proofs.Writings.{section_size, finishes, finish_fits}
+use Rattle.tray.proofs.Writings.{finishes, finish_fits}
 use Rattle.tray.proofs.put.finish.Goals as goal
 use Rattle.tray.proofs.put.finish.Goals.{then-at-eq0-via-then-at-eq0, then-at-eq0-via-else-at-eq0+then-not-has_room}
 
 unfit : (c : goal.Joined-then-at-eq0) → finish_unfit c.args.faults.now c.args.at (length c.args.tray.now) ≡ true
 unfit c = elim c.then-at-eq0.branch [
   | then-at-eq0-via-then-at-eq0 w ↦ (let zero = w.if-at-eq0.true in grind (arith, nat_tests))
-  | then-at-eq0-via-else-at-eq0+then-not-has_room w ↦ (let size = section_size c.args.faults.now w.as_slice.result.now w.as_slice.ensures.faults in grind (arith, nat_tests))
+  | then-at-eq0-via-else-at-eq0+then-not-has_room w ↦ (let size = w.section_size.ensures in grind (arith, nat_tests))
 ]
 
 pub returns-then-at-eq0 : goal.returns-then-at-eq0
@@ -24,7 +24,6 @@ pub returns : goal.returns
 returns c =
     let t = c.args.tray.now in
     let fs = c.args.faults.now in
-    let size = section_size fs c.as_slice.result.now c.as_slice.ensures.faults in
     let room : c.args.at + length (fault_section fs) ≤ length t = grind (arith, nat_tests) in
     let both = finish_fits t c.args.messages c.args.at fs (λ e. omega arith) room in
     let answer = c.put_faults.ensures.answer ∙ both.0 in

@@ -39,7 +39,7 @@ pub loop-i-init : goal.loop-i-init
 loop-i-init c =
     let s = c.self.inside in
     let o = c.self.invariant in
-    record { going = going_none s.fill.size s.bytes s.fill.mark (wants c.args.group.now) (omega (arith, o.room, c.self.told)) o.within; size_same = refl }
+    record { going = going_none (omega (arith, o.room, c.self.told)) o.within; size_same = refl }
 
 pub put_block-requires : goal.put_block-requires
 put_block-requires c = record {
@@ -56,7 +56,7 @@ loop-i-preserved c =
     let goes = c.in_ok-put_block.ensures.effect in
     let ok = c.in_ok-put_block.ensures.answer ∙ ap (λ n. block_answer n mark c.loop-i.i w) size in
     record {
-      going = going_more s.fill.size s.bytes s.fill.mark (wants c.args.group.now) (omega (arith, c.self.invariant.room, c.self.told)) c.loop-i.i mark c.loop-i.bytes c.loop-i.invariant.going
+      going = going_more (omega (arith, c.self.invariant.room, c.self.told)) c.loop-i.invariant.going
           (within_group c.args.group.now c.loop-i.i c.loop-i-test.true) w (at_place c.args.group.now c.loop-i.i c.index-group-i.result c.loop-i-test.true c.index-group-i.is)
           c.in_ok-put_block.field-0 ok goes.sent c.put_block.new.self.mark c.put_block.new.bytes goes.bytes goes.mark (omega (arith, goes.within, size));
       size_same = goes.size ∙ size;
@@ -68,7 +68,7 @@ same_below : (c : After-drop-guard) → take c.self.inside.fill.mark c.put_block
 same_below c =
     let s = c.self.inside in
     ap (take s.fill.mark) c.in_err-put_block.ensures.effect.bytes
-    ∙ going_back s.fill.size s.bytes s.fill.mark (wants c.args.group.now) (omega (arith, c.self.invariant.room, c.self.told)) c.loop-i.i c.loop-i.guard.fill.now.mark c.loop-i.bytes c.loop-i.invariant.going
+    ∙ going_back (omega (arith, c.self.invariant.room, c.self.told)) c.loop-i.invariant.going
 
 pub invariant_of-self : goal.invariant_of-self
 invariant_of-self c =
@@ -92,15 +92,15 @@ returns-in_err-put_block c =
     let w = want c.index-group-i.result.now in
     let at = at_place c.args.group.now c.loop-i.i c.index-group-i.result c.loop-i-test.true c.index-group-i.is in
     let no = c.in_err-put_block.ensures.answer ∙ ap (λ m. block_answer m mark c.loop-i.i w) c.loop-i.invariant.size_same in
-    let none : put_blocks n old ws ≡ [] = refused_blocks n s.bytes old ws room c.loop-i.i mark c.loop-i.bytes going lt w at c.in_err-put_block.field-0.0 no in
-    let a : c.from_residual.result ≡ put_answer n old 0 ws = r ∙ refused_answer n s.bytes old ws room c.loop-i.i mark c.loop-i.bytes going lt w at c.in_err-put_block.field-0.0 no in
+    let none : put_blocks n old ws ≡ [] = refused_blocks room going lt w at c.in_err-put_block.field-0.0 no in
+    let a : c.from_residual.result ≡ put_answer n old 0 ws = r ∙ refused_answer room going lt w at c.in_err-put_block.field-0.0 no in
     let back = sym (put_back c) in
     rw (← c.self.view_is)
     (record {
       answer = a;
       whole_or_not_at_all = whole_or_not (seen s.bytes s.fill) ws c.self.invariant.within c.from_residual.result a;
       frame = subst (λ (q : Fill). After (seen s.bytes s.fill) ws c.from_residual.result (seen c.put_block.new.bytes q)) back
-          (rw r (refused_frame n s.bytes old ws room c.loop-i.i mark c.loop-i.bytes going lt w at c.in_err-put_block.field-0.0 no c.put_block.new.bytes c.in_err-put_block.ensures.effect.bytes));
+          (rw r (refused_frame room going lt w at c.in_err-put_block.field-0.0 no c.put_block.new.bytes c.in_err-put_block.ensures.effect.bytes));
       blocks = λ bs h. subst (λ (q : Fill). Holds (take q.mark c.put_block.new.bytes) (bs ++ put_blocks n old ws)) back
           (subst (λ q. Holds (take old c.put_block.new.bytes) (bs ++ q)) (sym none) (holds_same (take old s.bytes) (take old c.put_block.new.bytes) bs (same_below c) h));
     })
@@ -112,7 +112,7 @@ invariant_of-self-2 c =
     let o = c.self.invariant in
     let going = c.loop-i.invariant.going in
     let f : Filled (take c.loop-i.guard.fill.now.mark c.loop-i.bytes) =
-    going_filled s.fill.size s.bytes s.fill.mark (wants c.args.group.now) (omega (arith, o.room, c.self.told)) c.loop-i.i c.loop-i.guard.fill.now.mark c.loop-i.bytes going o.holds in
+    going_filled (omega (arith, o.room, c.self.told)) going o.holds in
     subst (λ (q : Fill). IsOpen (seen c.loop-i.bytes q)) (sym (kept c)) (record { begun = omega (arith, o.begun, going.place); within = going.within; room = o.room; holds = f })
 
 pub returns : goal.returns
@@ -125,12 +125,12 @@ returns c =
     let going = c.loop-i.invariant.going in
     let mark = c.loop-i.guard.fill.now.mark in
     let past = past_group c.args.group.now c.loop-i.i c.loop-i-test.false in
-    let a : Ok tt ≡ put_answer n old 0 ws = whole_answer n s.bytes old ws room c.loop-i.i mark c.loop-i.bytes going past in
+    let a : Ok tt ≡ put_answer n old 0 ws = whole_answer room going past in
     let is = sym (kept c) in
     rw (← c.self.view_is)
     (record {
       answer = a;
       whole_or_not_at_all = whole_or_not (seen s.bytes s.fill) ws c.self.invariant.within (Ok tt) a;
-      frame = subst (λ (q : Fill). After (seen s.bytes s.fill) ws (Ok tt) (seen c.loop-i.bytes q)) is (whole_frame n s.bytes old ws room c.loop-i.i mark c.loop-i.bytes going past);
-      blocks = λ bs h. subst (λ (q : Fill). Holds (take q.mark c.loop-i.bytes) (bs ++ put_blocks n old ws)) is (whole_holds n s.bytes old ws room c.loop-i.i mark c.loop-i.bytes going past bs h);
+      frame = subst (λ (q : Fill). After (seen s.bytes s.fill) ws (Ok tt) (seen c.loop-i.bytes q)) is (whole_frame room going past);
+      blocks = λ bs h. subst (λ (q : Fill). Holds (take q.mark c.loop-i.bytes) (bs ++ put_blocks n old ws)) is (whole_holds room going past bs h);
     })

@@ -17,7 +17,7 @@ pub loop-i-init : goal.loop-i-init
 loop-i-init c =
     let s = c.args.self.now in
     let n = many c.args.groups.now in
-    marking_none s.size s.mark (filled s) c.args.refused.now (groups_want c.args.groups.now) (omega (arith, c.requires.room))
+    marking_none (omega (arith, c.requires.room))
 
 pub loop-i-preserved : goal.loop-i-preserved
 loop-i-preserved c =
@@ -26,8 +26,7 @@ loop-i-preserved c =
     let f = c.loop-i.self in
     let g = wants c.index-groups-i.result.now in
     let a = after_mark f c.put.new.self g c.put.result c.put.ensures.answer c.put.ensures.frame in
-    marking_more s.size s.mark (filled s) c.args.refused.now (groups_want c.args.groups.now) (omega (arith, c.requires.room))
-    c.loop-i.i f.size f.mark (filled f) c.loop-i.refused c.loop-i.invariant
+    marking_more (omega (arith, c.requires.room)) c.loop-i.invariant
     (omega (arith, c.loop-i-test.true)) g (at_place c.args.groups.now c.loop-i.i c.index-groups-i.result c.loop-i-test.true c.index-groups-i.is)
     c.put.result c.put.ensures.answer c.put.new.self.size c.put.new.self.mark (filled c.put.new.self) a.1 a.0 c.put.ensures.blocks
     (set c.loop-i.refused c.loop-i.i c.err.result) (ap (λ r. set c.loop-i.refused c.loop-i.i r) c.err.ensures.value)
@@ -43,8 +42,8 @@ returns c =
     let end : c.loop-i.i ≤ length gs = omega (arith, c.loop-i.auto.i-end) in
     record {
       size = c.loop-i.invariant.size_same;
-      mark = marked_mark s.size s.mark (filled s) c.args.refused.now gs room c.loop-i.i f.size f.mark (filled f) c.loop-i.refused c.loop-i.invariant past end;
-      blocks = marked_holds s.size s.mark (filled s) c.args.refused.now gs room c.loop-i.i f.size f.mark (filled f) c.loop-i.refused c.loop-i.invariant past end;
-      refused = marked_noted s.size s.mark (filled s) c.args.refused.now gs room c.loop-i.i f.size f.mark (filled f) c.loop-i.refused c.loop-i.invariant past end
+      mark = marked_mark room c.loop-i.invariant past end;
+      blocks = marked_holds room c.loop-i.invariant past end;
+      refused = marked_noted room c.loop-i.invariant past end
           ∙ ap (λ k. groups_refusals s.size s.mark gs ++ drop k c.args.refused.now) n;
     }

@@ -9,7 +9,7 @@ invariant_of-result c =
     let l : length s.bytes ≡ 60 = search rules in
     let e = c.fill.ensures.after (λ y h. search rules) in
     let low : 2 ≤ s.fill.size = omega (arith, o.begun, o.within) in
-    (o.room, sealed_over s.fill.mark s.fill.size s.bytes c.fill.new.self l low o.within o.room e o.holds)
+    (low, o.room, sealed_over s.fill.mark s.fill.size s.bytes c.fill.new.self l low o.within o.room e o.holds)
 
 pub returns : goal.returns
 returns c =
