@@ -3,13 +3,8 @@ use Rattle.std.specs.Prelude.{◌≡◌, ℕ, ◌+◌, List, ◌++◌, Option}
 use Rattle.tray.specs.declared.entry.Entry.{Entry}
 use Rattle.tray.specs.declared.tray.Tray.{Tray}
 use Rattle.tray.specs.declared.tray.Entries.{Entries}
-use Rattle.tray.specs.Trays.{Fault}
 use Rattle.tray.specs.Reading.{Item}
 use Rattle.tray.specs.Steps.{First, messages_ahead, faults_ahead}
-
--- the faults that a list of the code keeps, in the order in which they came: a list of the code stands for them itself
-abbrev pub fault_list : List Fault → List Fault
-fault_list fs = fs
 
 -- the bytes of an accepted tray
 abbrev pub bytes_said : Tray → List ℕ
