@@ -1,41 +1,16 @@
 -- The place that a body is refused at is the smallest at which it is wrong.
-use Rattle.std.specs.Prelude.{◌≡◌, ℕ, ◌+◌, ◌<◌, ◌≤◌, Bool, true, false, cond, not, List, ◌∷◌, length, drop, Some, None, Option, ◌==◌, nat_eq, nat_lt, slice_index, slice_index_or, refl}
-use Rattle.std.proofs.Common.{sym, ap, subst, ◌∙◌, ◌⊎◌, inl, inr, ⊎_elim, arith}
+use Rattle.std.specs.Prelude.{◌≡◌, ℕ, ◌+◌, ◌<◌, ◌≤◌, Bool, true, false, cond, not, List, length, drop, Some, None, ◌==◌, nat_lt, slice_index}
+use Rattle.std.proofs.Common.{sym, ap, subst, ◌∙◌, inl, inr, arith}
 use Rattle.std.proofs.lemmas.List.{length-take, length-drop, get_or-take, get_or-drop}
-use Rattle.std.proofs.lemmas.Bool.{cases_lt, cases_Bool, eqb-true, lt-ltb, le-ltb, eq-eqb, ltb-true, ltb-false, not-true, not-false}
-use Rattle.buffers.specs.Places.{wrong, part, or_else, first, shifted, Smallest, at, nowhere}
-use Rattle.buffers.proofs.Steps.{part_true, cases_option}
+use Rattle.std.proofs.lemmas.Bool.{cases_lt, cases_Bool, eqb-true, eq-eqb, not-true, not-false}
+use Rattle.buffers.specs.Places.{wrong, part, or_else, shifted, Smallest}
+use Rattle.buffers.proofs.Steps.{part_true}
 use Rattle.body.specs.Identifiers.{length_fits, wrong_from, misspelt}
-use Rattle.body.specs.Reading.{has_content, has_channel, has_until, type_of, size_of, id_at, id_of, channel_at, end_of, until_fault, id_fault, content_fault, channel_fault, content_part_fault, content_id_fault, presentation_fault, millis_at, time_fault}
+use Rattle.body.specs.Reading.{has_content, has_channel, has_until, type_of, size_of, id_at, id_of, channel_at, end_of, until_fault, id_fault, content_fault, channel_fault, content_id_fault, presentation_fault, millis_at, time_fault}
 use Rattle.body.specs.Faults.{ContentIdFaulty, lacks, nothing, misfit, late, character, after, PresentationFaulty, time_lacks, time_late, time_after}
 use Rattle.body.specs.Spelling.{good_all, bad_first}
+use Rattle.body.specs.Order.{step, below, index, where_there, inner, passed}
 use Rattle.body.specs.Tests.{channel_part, end_part}
-
--- ---- tests one after another
-module _ (W : ℕ → Type 0) where
-  -- where a test fails its place is the smallest, and where it passes those after it decide
-  step : (t : Bool) (p : ℕ) (rest : Option ℕ) → (t ≡ true → W p × ((q : ℕ) → W q → p ≤ q)) → (t ≡ false → Smallest W rest) → Smallest W (or_else (wrong t p) rest)
-  step true p rest w f = at p (w refl).0 (w refl).1
-  step false p rest w f = f refl
-
-  -- a test of two numbers
-  below : (m n p : ℕ) (rest : Option ℕ) → (m < n → W p × ((q : ℕ) → W q → p ≤ q)) → (n ≤ m → Smallest W rest) → Smallest W (or_else (wrong (nat_lt m n) p) rest)
-  below m n p rest w f = step (nat_lt m n) p rest (λ e. w (ltb-true _ _ e)) (λ e. f (ltb-false _ _ e))
-
-  -- a test that finds an index of a part that begins at p
-  index : (p : ℕ) (o rest : Option ℕ) → ((i : ℕ) → o ≡ Some i → W (p + i) × ((q : ℕ) → W q → p + i ≤ q)) → (o ≡ None → Smallest W rest) → Smallest W (or_else (shifted p o) rest)
-  index p (Some i) rest w f = at (p + i) (w i refl).0 (w i refl).1
-  index p None rest w f = f refl
-
-  -- the tests of a part that is there only sometimes
-  where_there : (t : Bool) (o rest : Option ℕ) → (t ≡ true → Smallest W (or_else o rest)) → (t ≡ false → Smallest W rest) → Smallest W (or_else (part t o) rest)
-  where_there true o rest f g = f refl
-  where_there false o rest f g = g refl
-
-  -- the first test of a part
-  inner : (o x rest : Option ℕ) → Smallest W (or_else o (or_else x rest)) → Smallest W (or_else (or_else o x) rest)
-  inner (Some p) x rest s = s
-  inner None x rest s = s
 
 differ : {A : Type 0} (t : Bool) → t ≡ true → t ≡ false → A
 differ t e f = let z : true ≡ false = sym e ∙ f in absurd (cc z)
@@ -91,7 +66,7 @@ module _ (ok : ℕ → Bool) (b : List ℕ) where
   by_end : Clean → end_of b ≤ length b → Smallest Faulty (or_else (end_part b) None)
   by_end k le =
       below Faulty (end_of b) (length b) (end_of b) None (λ h. (after h, least_after k (end_of b) (λ x. omega arith) (λ x. omega arith)))
-      (λ h. nowhere (λ q w. let n : end_of b + q + 1 ≤ q = least_after k (end_of b + q + 1) (λ x. omega arith) (λ x. omega arith) q w in omega arith))
+      (λ h. passed Faulty (λ n. least_after k n (λ x. omega arith) (λ x. omega arith)))
 
   by_channel : Clean → Smallest Faulty (or_else (channel_part b) (or_else (end_part b) None))
   by_channel k =
@@ -224,4 +199,4 @@ presentation_smallest b =
     (λ m. (time_late (omega arith) m, least 4 (λ x. omega arith) (λ x y. omega arith) (λ x. omega arith)))
     (λ m. below _ 6 (length b) 6 None
     (λ k. (time_after k, least 6 (λ x. omega arith) (λ x y. omega arith) (λ x. omega arith)))
-    (λ k. nowhere (λ q w. let n : 7 + q ≤ q = least (7 + q) (λ x. omega arith) (λ x y. omega arith) (λ x. omega arith) q w in omega arith))))))
+    (λ k. passed _ (λ n. least n (λ x. omega arith) (λ x y. omega arith) (λ x. omega arith)))))))

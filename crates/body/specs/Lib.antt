@@ -13,3 +13,4 @@ pub mod Rounds
 pub mod Digits
 pub mod PlainFormatLemmas
 pub mod Texts
+pub mod Order

@@ -1,44 +1,30 @@
 -- The place that a message is refused at is the smallest of its wrong values.
-use Rattle.std.specs.Prelude.{◌≡◌, ℕ, ◌+◌, ◌^◌, ◌<◌, ◌≤◌, Bool, true, false, not, ◌⊎◌, List, ◌++◌, length, Some, None, Option, ◌==◌, ◌≢◌, nat_le, nat_lt, slice_index, refl}
-use Rattle.std.proofs.Common.{sym, subst, inl, inr, ⊎_elim, arith}
+use Rattle.std.specs.Prelude.{◌≡◌, ℕ, ◌+◌, ◌^◌, ◌<◌, ◌≤◌, Bool, true, false, not, List, ◌++◌, length, Some, None, Option, ◌==◌, ◌≢◌, slice_index, refl}
+use Rattle.std.proofs.Common.{sym, subst, ⊎_elim, arith}
 use Rattle.std.proofs.lemmas.List.{length-append}
-use Rattle.std.proofs.lemmas.Bool.{cases_lt, ltb-true, leb-true, eqb-true, lt-ltb, le-leb, eq-eqb, not-true, not_from_false}
-use Rattle.buffers.specs.Places.{or_else, Smallest, at, nowhere}
-use Rattle.buffers.proofs.Firsts.{smallest_wrong, smallest_none, smallest_either, smallest_same, smallest_shifted, smallest_part}
+use Rattle.std.proofs.lemmas.Bool.{cases_lt, eqb-true, eq-eqb, not-true, not-false}
+use Rattle.buffers.specs.Places.{or_else, shifted, Smallest, at, nowhere}
+use Rattle.buffers.proofs.Firsts.{smallest_none, smallest_either, smallest_shifted, smallest_part}
 use Rattle.buffers.proofs.Steps.{cases_option}
 use Rattle.body.specs.declared.message.Time.{Time}
 use Rattle.body.specs.declared.message.Channel.{Channel}
 use Rattle.body.specs.Identifiers.{length_fits, wrong_from, misspelt}
 use Rattle.body.specs.Format.{ones, flag, until_bytes, content_bytes, id_place, time_wrong, until_wrong, content_wrong, channel_wrong, content_id_wrong, presentation_wrong}
 use Rattle.body.specs.Messages.{Identified, Said, content_id, presentation, plain}
+use Rattle.body.specs.Order.{step, below, reaches, among, passed}
 use Rattle.body.specs.Spelling.{good_all, bad_first}
 use Rattle.body_writing.specs.Unfit.{TimeUnfit, seconds_large, milliseconds_large, UntilUnfit, ContentUnfit, type_large, length_misfit, until_unfit, character, ChannelUnfit, bsid_large, major_large, minor_large, ContentIdUnfit, PresentationUnfit}
 
--- one test, at its place
-abbrev Fails : Bool → ℕ → ℕ → Type 0
-Fails t p q = (t ≡ true) × (q ≡ p)
-
--- no test
-abbrev Never : ℕ → Type 0
-Never q = ⊥
-
 -- ---- a time
-into_time : (p : ℕ) (t : Time) (q : ℕ) → Fails (nat_le (2 ^ 32) t.seconds) p q ⊎ (Fails (nat_lt 999 t.milliseconds) (p + 4) q ⊎ Never q) → TimeUnfit p t q
-into_time p t q (inl w) = subst (TimeUnfit p t) (sym w.1) (seconds_large (leb-true _ _ w.0))
-into_time p t q (inr (inl w)) = subst (TimeUnfit p t) (sym w.1) (milliseconds_large (ltb-true _ _ w.0))
-into_time p t q (inr (inr w)) = absurd w
-
-from_time : (p : ℕ) (t : Time) (q : ℕ) → TimeUnfit p t q → Fails (nat_le (2 ^ 32) t.seconds) p q ⊎ (Fails (nat_lt 999 t.milliseconds) (p + 4) q ⊎ Never q)
-from_time p t q (seconds_large h) = inl (le-leb _ _ h, refl)
-from_time p t q (milliseconds_large h) = inr (inl (lt-ltb _ _ h, refl))
+time_least : (p : ℕ) (t : Time) (n : ℕ) → (2 ^ 32 ≤ t.seconds → n ≤ p) → (999 < t.milliseconds → n ≤ p + 4) → (q : ℕ) → TimeUnfit p t q → n ≤ q
+time_least p t n s m q (seconds_large h) = s h
+time_least p t n s m q (milliseconds_large h) = m h
 
 pub time_smallest : (p : ℕ) (t : Time) → Smallest (TimeUnfit p t) (time_wrong p t)
 time_smallest p t =
-    smallest_same _ (TimeUnfit p t) (time_wrong p t)
-    (smallest_either (Fails (nat_le (2 ^ 32) t.seconds) p) _ _ _ (smallest_wrong _ p)
-    (smallest_either (Fails (nat_lt 999 t.milliseconds) (p + 4)) Never _ _ (smallest_wrong _ (p + 4)) smallest_none (λ x y v w. absurd w))
-    (λ x y v w. elim w [ inl u ↦ omega (arith, v.1, u.1) | inr u ↦ absurd u ]))
-    (into_time p t) (from_time p t)
+    reaches _ (2 ^ 32) t.seconds p _ (λ h. (seconds_large h, time_least p t p (λ x. omega arith) (λ x. omega arith)))
+    (λ s. below _ 999 t.milliseconds (p + 4) None (λ h. (milliseconds_large h, time_least p t (p + 4) (λ x. omega arith) (λ x. omega arith)))
+    (λ m. passed _ (λ n. time_least p t n (λ x. omega arith) (λ x. omega arith))))
 
 until_smallest : (u : Option Time) → Smallest (UntilUnfit u) (until_wrong u)
 until_smallest (Some t) = time_smallest 3 t
@@ -83,59 +69,40 @@ module _ (ok : ℕ → Bool) where
   abbrev Misspelt : Identified → ℕ → Type 0
   Misspelt c q = (i : ℕ) × ((((c.id_type == 2) ≡ true) × Bad c.id i) × (q ≡ id_place c.valid_until + i))
 
-  abbrev InContent : Identified → ℕ → Type 0
-  InContent c q =
-      Fails (nat_lt 63 c.id_type) 1 q ⊎ (Fails (not (length_fits c.id_type (length c.id))) 2 q ⊎ (UntilUnfit c.valid_until q ⊎ (Misspelt c q ⊎ Never q)))
+  misspelt_smallest : (c : Identified) → Smallest (Misspelt c) (shifted (id_place c.valid_until) (misspelt ok c.id_type c.id))
+  misspelt_smallest c = smallest_shifted _ (id_place c.valid_until) (misspelt ok c.id_type c.id) (smallest_part (Bad c.id) (c.id_type == 2) _ (spelling_smallest c.id))
 
-  into_content : (c : Identified) (q : ℕ) → InContent c q → ContentUnfit ok c q
-  into_content c q (inl w) = subst (ContentUnfit ok c) (sym w.1) (type_large (ltb-true _ _ w.0))
-  into_content c q (inr (inl w)) = subst (ContentUnfit ok c) (sym w.1) (length_misfit (not-true _ w.0))
-  into_content c q (inr (inr (inl w))) = until_unfit q w
-  into_content c q (inr (inr (inr (inl w)))) = subst (ContentUnfit ok c) (sym w.1.1) (character w.0 (eqb-true _ _ w.1.0.0) w.1.0.1.0 w.1.0.1.1)
-  into_content c q (inr (inr (inr (inr w)))) = absurd w
-
-  from_content : (c : Identified) (q : ℕ) → ContentUnfit ok c q → InContent c q
-  from_content c q (type_large h) = inl (lt-ltb _ _ h, refl)
-  from_content c q (length_misfit h) = inr (inl (not_from_false _ h, refl))
-  from_content c q (until_unfit p w) = inr (inr (inl w))
-  from_content c q (character i two lt bad) = inr (inr (inr (inl (i, ((eq-eqb _ _ two, (lt, bad)), refl)))))
+  content_least : (c : Identified) (n : ℕ) → (63 < c.id_type → n ≤ 1) → (length_fits c.id_type (length c.id) ≡ false → n ≤ 2) → ((q : ℕ) → UntilUnfit c.valid_until q → n ≤ q) → ((q : ℕ) → Misspelt c q → n ≤ q) → (q : ℕ) → ContentUnfit ok c q → n ≤ q
+  content_least c n t l u m q (type_large h) = t h
+  content_least c n t l u m q (length_misfit h) = l h
+  content_least c n t l u m q (until_unfit p w) = u p w
+  content_least c n t l u m q (character i two lt bad) = m q (i, ((eq-eqb _ _ two, (lt, bad)), refl))
 
   pub content_smallest : (c : Identified) → Smallest (ContentUnfit ok c) (content_wrong ok (Some c))
   content_smallest c =
       let u = c.valid_until in
       let above : 3 ≤ id_place u = place_above u in
-      let spelt = smallest_either (Misspelt c) Never _ _ (smallest_shifted _ (id_place u) (misspelt ok c.id_type c.id) (smallest_part (Bad c.id) (c.id_type == 2) _ (spelling_smallest c.id))) smallest_none (λ x y v w. absurd w) in
-      let late = smallest_either (UntilUnfit u) (λ q. Misspelt c q ⊎ Never q) _ _ (until_smallest u) spelt
-      (λ x y v w. elim w [ inl m ↦ omega (arith, until_below u x v, m.1.1) | inr z ↦ absurd z ]) in
-      let long = smallest_either (Fails (not (length_fits c.id_type (length c.id))) 2) (λ q. UntilUnfit u q ⊎ (Misspelt c q ⊎ Never q)) _ _ (smallest_wrong _ 2) late
-      (λ x y v w. elim w [ inl t ↦ omega (arith, until_above u y t, v.1) | inr m ↦ elim m [ inl k ↦ omega (arith, v.1, k.1.1) | inr z ↦ absurd z ] ]) in
-      let all = smallest_either (Fails (nat_lt 63 c.id_type) 1) (λ q. Fails (not (length_fits c.id_type (length c.id))) 2 q ⊎ (UntilUnfit u q ⊎ (Misspelt c q ⊎ Never q))) _ _ (smallest_wrong _ 1) long
-      (λ x y v w. elim w [ inl f ↦ omega (arith, v.1, f.1) | inr r ↦ elim r [ inl t ↦ omega (arith, until_above u y t, v.1) | inr m ↦ elim m [ inl k ↦ omega (arith, v.1, k.1.1) | inr z ↦ absurd z ] ] ]) in
-      smallest_same (InContent c) (ContentUnfit ok c) (content_wrong ok (Some c)) all (into_content c) (from_content c)
+      let fit : Bool = length_fits c.id_type (length c.id) in
+      below _ 63 c.id_type 1 _ (λ h. (type_large h, content_least c 1 (λ x. omega arith) (λ x. omega arith) (λ q w. omega (arith, until_above u q w)) (λ q w. omega (arith, w.1.1))))
+      (λ t. step _ (not fit) 2 _ (λ e. (length_misfit (not-true _ e), content_least c 2 (λ x. omega arith) (λ x. omega arith) (λ q w. omega (arith, until_above u q w)) (λ q w. omega (arith, w.1.1))))
+      (λ e. among _ (UntilUnfit u) (until_wrong u) _ (until_smallest u) (λ p w h. (until_unfit p w, content_least c p (λ x. omega arith) (λ x. absurd (apart _ (not-false _ e) x)) h (λ q v. omega (arith, until_below u p w, v.1.1))))
+      (λ none. among _ (Misspelt c) (shifted (id_place u) (misspelt ok c.id_type c.id)) None (misspelt_smallest c)
+      (λ p w h. (subst (ContentUnfit ok c) (sym w.1.1) (character w.0 (eqb-true _ _ w.1.0.0) w.1.0.1.0 w.1.0.1.1), content_least c p (λ x. omega arith) (λ x. absurd (apart _ (not-false _ e) x)) (λ q v. absurd (none q v)) h))
+      (λ spelt. passed _ (λ n. content_least c n (λ x. omega arith) (λ x. absurd (apart _ (not-false _ e) x)) (λ q v. absurd (none q v)) (λ q v. absurd (spelt q v)))))))
 
 -- ---- a channel
-abbrev InChannel : ℕ → Channel → ℕ → Type 0
-InChannel p h q = Fails (nat_le (2 ^ 16) h.bsid) p q ⊎ (Fails (nat_lt 1023 h.major) (p + 2) q ⊎ (Fails (nat_lt 1023 h.minor) (p + 3) q ⊎ Never q))
-
-into_channel : (p : ℕ) (h : Channel) (q : ℕ) → InChannel p h q → ChannelUnfit p h q
-into_channel p h q (inl w) = subst (ChannelUnfit p h) (sym w.1) (bsid_large (leb-true _ _ w.0))
-into_channel p h q (inr (inl w)) = subst (ChannelUnfit p h) (sym w.1) (major_large (ltb-true _ _ w.0))
-into_channel p h q (inr (inr (inl w))) = subst (ChannelUnfit p h) (sym w.1) (minor_large (ltb-true _ _ w.0))
-into_channel p h q (inr (inr (inr w))) = absurd w
-
-from_channel : (p : ℕ) (h : Channel) (q : ℕ) → ChannelUnfit p h q → InChannel p h q
-from_channel p h q (bsid_large e) = inl (le-leb _ _ e, refl)
-from_channel p h q (major_large e) = inr (inl (lt-ltb _ _ e, refl))
-from_channel p h q (minor_large e) = inr (inr (inl (lt-ltb _ _ e, refl)))
+channel_least : (p : ℕ) (h : Channel) (n : ℕ) → (2 ^ 16 ≤ h.bsid → n ≤ p) → (1023 < h.major → n ≤ p + 2) → (1023 < h.minor → n ≤ p + 3) → (q : ℕ) → ChannelUnfit p h q → n ≤ q
+channel_least p h n b m l q (bsid_large e) = b e
+channel_least p h n b m l q (major_large e) = m e
+channel_least p h n b m l q (minor_large e) = l e
 
 pub channel_smallest : (p : ℕ) (h : Channel) → Smallest (ChannelUnfit p h) (channel_wrong p (Some h))
 channel_smallest p h =
-    let minor = smallest_either (Fails (nat_lt 1023 h.minor) (p + 3)) Never _ _ (smallest_wrong _ (p + 3)) smallest_none (λ x y v w. absurd w) in
-    let major = smallest_either (Fails (nat_lt 1023 h.major) (p + 2)) (λ q. Fails (nat_lt 1023 h.minor) (p + 3) q ⊎ Never q) _ _ (smallest_wrong _ (p + 2)) minor
-    (λ x y v w. elim w [ inl u ↦ omega (arith, v.1, u.1) | inr z ↦ absurd z ]) in
-    let all = smallest_either (Fails (nat_le (2 ^ 16) h.bsid) p) (λ q. Fails (nat_lt 1023 h.major) (p + 2) q ⊎ (Fails (nat_lt 1023 h.minor) (p + 3) q ⊎ Never q)) _ _ (smallest_wrong _ p) major
-    (λ x y v w. elim w [ inl u ↦ omega (arith, v.1, u.1) | inr m ↦ elim m [ inl u ↦ omega (arith, v.1, u.1) | inr z ↦ absurd z ] ]) in
-    smallest_same (InChannel p h) (ChannelUnfit p h) (channel_wrong p (Some h)) all (into_channel p h) (from_channel p h)
+    let least = channel_least p h in
+    reaches _ (2 ^ 16) h.bsid p _ (λ e. (bsid_large e, least p (λ x. omega arith) (λ x. omega arith) (λ x. omega arith)))
+    (λ b. below _ 1023 h.major (p + 2) _ (λ e. (major_large e, least (p + 2) (λ x. omega arith) (λ x. omega arith) (λ x. omega arith)))
+    (λ m. below _ 1023 h.minor (p + 3) None (λ e. (minor_large e, least (p + 3) (λ x. omega arith) (λ x. omega arith) (λ x. omega arith)))
+    (λ l. passed _ (λ n. least n (λ x. omega arith) (λ x. omega arith) (λ x. omega arith)))))
 
 channel_above : (p : ℕ) (h : Channel) (q : ℕ) → ChannelUnfit p h q → p ≤ q
 channel_above p h q (bsid_large e) = omega arith
