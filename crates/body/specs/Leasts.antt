@@ -9,7 +9,7 @@ use Rattle.body.specs.Identifiers.{length_fits, wrong_from, misspelt}
 use Rattle.body.specs.Reading.{has_content, has_channel, has_until, type_of, size_of, id_at, id_of, channel_at, end_of, until_fault, id_fault, content_fault, channel_fault, content_id_fault, presentation_fault, millis_at, time_fault}
 use Rattle.body.specs.Faults.{ContentIdFaulty, lacks, nothing, misfit, late, character, after, PresentationFaulty, time_lacks, time_late, time_after}
 use Rattle.body.specs.Spelling.{good_all, bad_first}
-use Rattle.body.specs.Order.{step, below, index, where_there, inner, passed}
+use Rattle.body.specs.Order.{Least, step, below, index, where_there, inner, passed}
 use Rattle.body.specs.Tests.{channel_part, end_part}
 
 differ : {A : Type 0} (t : Bool) → t ≡ true → t ≡ false → A
@@ -22,13 +22,13 @@ module _ (ok : ℕ → Bool) (b : List ℕ) where
   -- ---- where the parts lie
   end_above : channel_at b ≤ end_of b
   end_above = elim (cases_Bool (has_channel b)) [
-    inl e ↦ let k : end_of b ≡ channel_at b + 5 = ap (λ t. cond t (channel_at b + 5) (channel_at b)) e in omega arith
+    | inl e ↦ let k : end_of b ≡ channel_at b + 5 = ap (λ t. cond t (channel_at b + 5) (channel_at b)) e in omega arith
     | inr e ↦ let k : end_of b ≡ channel_at b = ap (λ t. cond t (channel_at b + 5) (channel_at b)) e in omega arith
   ]
 
   id_above : 3 ≤ id_at b
   id_above = elim (cases_Bool (has_until b)) [
-    inl e ↦ let k : id_at b ≡ 9 = ap (λ t. cond t 9 3) e in omega arith
+    | inl e ↦ let k : id_at b ≡ 9 = ap (λ t. cond t 9 3) e in omega arith
     | inr e ↦ let k : id_at b ≡ 3 = ap (λ t. cond t 9 3) e in omega arith
   ]
 
@@ -115,11 +115,11 @@ module _ (ok : ℕ → Bool) (b : List ℕ) where
   -- only an Ad-ID has characters that can be wrong
   is_ad : (p : ℕ) → misspelt ok (type_of b) (id_of b) ≡ Some p → type_of b ≡ 2
   is_ad p e = elim (cases_Bool (type_of b == 2)) [
-    inl t ↦ eqb-true _ _ t
+    | inl t ↦ eqb-true _ _ t
     | inr t ↦ let n : misspelt ok (type_of b) (id_of b) ≡ None = ap (λ x. part x (wrong_from ok 0 (id_of b))) t in absurd (cc (sym e ∙ n))
   ]
 
-  bad_one : Begun → (p : ℕ) → misspelt ok (type_of b) (id_of b) ≡ Some p → Faulty (id_at b + p) × ((q : ℕ) → Faulty q → id_at b + p ≤ q)
+  bad_one : Begun → (p : ℕ) → misspelt ok (type_of b) (id_of b) ≡ Some p → Least Faulty (id_at b + p)
   bad_one k p e =
       let ce : channel_at b ≡ id_at b + size_of b = content_end k.has in
       let ea = end_above in
@@ -130,8 +130,8 @@ module _ (ok : ℕ → Bool) (b : List ℕ) where
       let bad : ok (slice_index b (id_at b + r.0)) ≡ false = ap ok (sym (spelt_at r.0 w.0)) ∙ r.1.1.1.0 in (
         subst (λ n. Faulty (id_at b + n)) (sym same) (character r.0 w.0 w.1 k.has two bad),
         least_of_id k (id_at b + p) (λ x. omega (arith, w.1))
-        (λ i x y v g. elim (cases_lt i r.0) [ inl lt ↦ differ _ (r.1.1.1.1 i lt) (ap ok (spelt_at i x) ∙ g) | inr ge ↦ omega arith ])
-        (λ x. omega (arith, w.0)),
+            (λ i x y v g. elim (cases_lt i r.0) [ inl lt ↦ differ _ (r.1.1.1.1 i lt) (ap ok (spelt_at i x) ∙ g) | inr ge ↦ omega arith ])
+            (λ x. omega (arith, w.0)),
       )
 
   by_id : Begun → Smallest Faulty (or_else (id_fault ok b) (or_else (channel_part b) (or_else (end_part b) None)))
