@@ -3,7 +3,7 @@ use Rattle.std.proofs.Common.{◌≡◌, ℕ, ◌+◌, ◌-◌, ◌%◌, ◌<◌
 use Rattle.std.proofs.lemmas.List.{take_all, length-drop, length-take-le, get_or-take}
 use Rattle.std.proofs.lemmas.Bool.{cases_lt, ltb-false}
 use Rattle.std.specs.Prelude.{slice_index}
-use Rattle.std.specs.Option.{option_transpose, option_map_or, MatchOption}
+use Rattle.std.specs.Option.{option_transpose, option_map_or, MatchOption, option_map}
 use Rattle.refusal.specs.declared.Refusal.{Refusal}
 use Rattle.refusal.specs.declared.Refusal.TheVariants.{Body}
 use Rattle.buffers.specs.Places.{wrong, unless, part, present, told}
@@ -12,7 +12,7 @@ use Rattle.body.specs.declared.message.Time.{Time}
 use Rattle.body.specs.declared.message.Channel.{Channel}
 use Rattle.body.specs.declared.message.Content.{Content}
 use Rattle.body.specs.Format.{id_place}
-use Rattle.body.specs.Messages.{Identified, option, identified}
+use Rattle.body.specs.Messages.{Identified, identified}
 use Rattle.body.specs.Reading.{reading, has_content, has_channel, has_until, end_of, size_of, time_at, id_at, id_of, until_fault, id_fault, content_fault, content_of, content_part_fault, content_part_of, channel_at, channel_of, channel_fault, channel_part_fault, channel_part_of}
 use Rattle.body.specs.Tests.{channel_part}
 
@@ -29,14 +29,14 @@ there b p n =
     (cases_lt (length b) (p + n))
 
 -- a part that is read only where it is there
-answered : {A B : Type 0} (says : A → B) (r : Result A Refusal) (fault : Option ℕ) (x : B) → told says r ≡ unless Body fault x → told (option says) (option_transpose (Some r)) ≡ unless Body fault (Some x)
+answered : {A B : Type 0} (says : A → B) (r : Result A Refusal) (fault : Option ℕ) (x : B) → told says r ≡ unless Body fault x → told (option_map says) (option_transpose (Some r)) ≡ unless Body fault (Some x)
 answered says (Ok y) None x e = let k : says y ≡ x = cc in ap (λ z. Ok (Some z)) k
 answered says (Ok y) (Some p) x e = cc
 answered says (Err y) None x e = cc
 answered says (Err y) (Some p) x e = let k : y ≡ Body p = cc in ap Err k
 
 pub part_told : {A B : Type 0} (says : A → B) (t : Bool) (o : Option (Result A Refusal)) (fault : Option ℕ) (x : B) (P : Result A Refusal → Type 0) → is_some o ≡ t → IfSome o P → ((r : Result A Refusal) → P r → told says r ≡ unless Body fault x)
-    → told (option says) (option_transpose o) ≡ unless Body (part t fault) (present t x)
+    → told (option_map says) (option_transpose o) ≡ unless Body (part t fault) (present t x)
 part_told says true (Some r) fault x P s p f = answered says r fault x (f r p)
 part_told says false None fault x P s p f = refl
 part_told says false (Some r) fault x P s p f = cc
@@ -46,7 +46,7 @@ same : {A E : Type 0} (r : Result A E) → told (λ x. x) r ≡ r
 same (Ok x) = refl
 same (Err e) = refl
 
-same_option : {A E : Type 0} (r : Result (Option A) E) → told (option (λ x. x)) r ≡ r
+same_option : {A E : Type 0} (r : Result (Option A) E) → told (option_map (λ x. x)) r ≡ r
 same_option (Ok (Some x)) = refl
 same_option (Ok None) = refl
 same_option (Err e) = refl
@@ -67,7 +67,7 @@ first_read b h e =
 
 -- the content and the channel, once the first byte is read
 pub content_read : (ok : ℕ → Bool) (b h : List ℕ) (o : Option (Result Content Refusal)) (P : Result Content Refusal → Type 0) → slice_index h 0 ≡ slice_index b 0 → is_some o ≡ nat_le 128 (slice_index h 0) → IfSome o P → ((r : Result Content Refusal) → P r → told identified r ≡ reading (content_fault ok) content_of b)
-    → told (option identified) (option_transpose o) ≡ reading (content_part_fault ok) content_part_of b
+    → told (option_map identified) (option_transpose o) ≡ reading (content_part_fault ok) content_part_of b
 content_read ok b h o P f s p g = part_told identified (has_content b) o (content_fault ok b) (content_of b) P (s ∙ ap (nat_le 128) f) p g
 
 pub channel_read : (b h : List ℕ) (at : ℕ) (o : Option (Result Channel Refusal)) (P : Result Channel Refusal → Type 0) → slice_index h 0 ≡ slice_index b 0 → is_some o ≡ nat_le 64 (slice_index h 0 % 128) → IfSome o P → ((r : Result Channel Refusal) → P r → r ≡ reading (channel_fault at) (channel_of at) b)
@@ -83,7 +83,7 @@ mapped f None d r P m g = m
 abbrev ends : Identified → ℕ
 ends c = id_place c.valid_until + length c.id
 
-ends_read : (o : Option Content) → option_map_or (λ c. ends (identified c)) o 1 ≡ option_map_or ends (option identified o) 1
+ends_read : (o : Option Content) → option_map_or (λ c. ends (identified c)) o 1 ≡ option_map_or ends (option_map identified o) 1
 ends_read (Some c) = refl
 ends_read None = refl
 
@@ -104,7 +104,7 @@ ends_there ok b true e =
 ends_there ok b false e = refl
 
 -- where the channel begins, by the content that was read before it
-pub channel_begins : (ok : ℕ → Bool) (b : List ℕ) (o : Option Content) (at : ℕ) → content_part_fault ok b ≡ None → option identified o ≡ content_part_of b → at ≡ option_map_or (λ c. ends (identified c)) o 1 → at ≡ channel_at b
+pub channel_begins : (ok : ℕ → Bool) (b : List ℕ) (o : Option Content) (at : ℕ) → content_part_fault ok b ≡ None → option_map identified o ≡ content_part_of b → at ≡ option_map_or (λ c. ends (identified c)) o 1 → at ≡ channel_at b
 channel_begins ok b o at f e h = h ∙ (ends_read o ∙ (ap (λ x. option_map_or ends x 1) e ∙ ends_there ok b (has_content b) f))
 
 -- where it ends

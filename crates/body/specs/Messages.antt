@@ -1,5 +1,6 @@
 -- What messages say, as plain values: the identifier's bytes in place of the borrowed part of a body.
-use Rattle.std.specs.Prelude.{ℕ, List, Some, None, Option}
+use Rattle.std.specs.Prelude.{ℕ, List, Option}
+use Rattle.std.specs.Option.{option_map}
 use Rattle.body.specs.declared.message.Time.{Time}
 use Rattle.body.specs.declared.message.Channel.{Channel}
 use Rattle.body.specs.declared.message.Content.{Content}
@@ -17,15 +18,10 @@ pub data Said : Type 0 where
   presentation : Time → Said
   plain : List ℕ → Said
 
--- a value that may lack, in other words
-abbrev pub option : {A B : Type 0} → (A → B) → Option A → Option B
-option f (Some x) = Some (f x)
-option f None = None
-
 -- what a borrowed content says
 abbrev pub identified : Content → Identified
 identified c = record { id_type = c.id_type; valid_until = c.valid_until; id = c.id.now }
 
 -- what a borrowed content ID message says
 abbrev pub said_content_id : ContentId → Said
-said_content_id m = content_id (option identified m.content) m.channel
+said_content_id m = content_id (option_map identified m.content) m.channel

@@ -17,18 +17,18 @@ pub(crate) fn content_in<'a>(body: &'a [u8]) -> Result<Content<'a>, Refusal>
     ensures { told identified result ≡ reading (content_fault is_alphanumeric) content_of body.now }
 {
     let [head, length] = field::<2>(body, TYPE_PLACE)?;
-    let id_type = head % UNTIL_FLAG;
-    if !fits_length(id_type, length as usize) {
+    let (id_type, size) = (head % UNTIL_FLAG, length as usize);
+    if !fits_length(id_type, size) {
         return Err(Refusal::Body(LENGTH_PLACE));
     }
     let has_until = head % CONTENT_ONES >= UNTIL_FLAG;
     let valid_until = has_until.then(|| time_at(body, UNTIL_PLACE)).transpose()?;
     let at = id_place(valid_until);
-    let id = &body[at..body.len().min(at + length as usize)];
+    let id = &body[at..body.len().min(at + size)];
     if let Some(i) = wrong_character(id_type, id) {
         return Err(Refusal::Body(at + i));
     }
-    if id.len() < length as usize {
+    if id.len() < size {
         return Err(Refusal::Body(body.len()));
     }
     Ok(Content {

@@ -2,13 +2,12 @@
 use Rattle.std.proofs.Common.{◌≡◌, ℕ, ◌+◌, List, [], ◌++◌, length, Some, None, Option, refl, sym, ap, ◌∙◌, IsSomeAnd, arith}
 use Rattle.std.proofs.lemmas.List.{length-append}
 use Rattle.std.proofs.lemmas.Bool.{cond-true, le-leb}
-use Rattle.std.specs.Option.{MatchOption, option_map_or}
+use Rattle.std.specs.Option.{MatchOption, option_map_or, option_map}
 use Rattle.buffers.specs.Laid.{laid, laying, laid_or_not}
 use Rattle.buffers.proofs.Lays.{laid_none, laid_more, length_laid}
 use Rattle.body.specs.declared.message.Time.{Time}
 use Rattle.body.specs.declared.message.Channel.{Channel}
 use Rattle.body.specs.Format.{flag, time_bytes, until_bytes, channel_bytes}
-use Rattle.body.specs.Messages.{option}
 use Rattle.body_writing.specs.Outputs.{Lays, or_nothing}
 
 -- what one write says
@@ -40,16 +39,16 @@ fits_first at ps qs x y z r f h =
     absurd (cc k.0)
 
 -- the bytes of a part, by what makes them
-pub part_bytes : {A : Type 0} (f : A → List ℕ) (o : Option A) (r : Option (List ℕ)) (P : A → List ℕ → Type 0) → MatchOption o (r ≡ None) (λ x. IsSomeAnd r (P x)) → ((x : A) (y : List ℕ) → P x y → y ≡ f x) → or_nothing r ≡ or_nothing (option f o)
+pub part_bytes : {A : Type 0} (f : A → List ℕ) (o : Option A) (r : Option (List ℕ)) (P : A → List ℕ → Type 0) → MatchOption o (r ≡ None) (λ x. IsSomeAnd r (P x)) → ((x : A) (y : List ℕ) → P x y → y ≡ f x) → or_nothing r ≡ or_nothing (option_map f o)
 part_bytes f (Some x) (Some y) P m g = g x y m
 part_bytes f (Some x) None P m g = absurd m
 part_bytes f None r P m g = ap or_nothing m
 
-pub until_part : (r : ℕ) (u : Option Time) → or_nothing (option (time_bytes r) u) ≡ until_bytes r u
+pub until_part : (r : ℕ) (u : Option Time) → or_nothing (option_map (time_bytes r) u) ≡ until_bytes r u
 until_part r (Some t) = refl
 until_part r None = refl
 
-pub channel_part : (r : ℕ) (h : Option Channel) → or_nothing (option (λ c. channel_bytes r (Some c)) h) ≡ channel_bytes r h
+pub channel_part : (r : ℕ) (h : Option Channel) → or_nothing (option_map (λ c. channel_bytes r (Some c)) h) ≡ channel_bytes r h
 channel_part r (Some c) = refl
 channel_part r None = refl
 

@@ -1,12 +1,12 @@
 -- What the methods of an option answer, by what their closures do.
 use Rattle.std.proofs.Common.{◌≡◌, ℕ, ◌+◌, ◌&&◌, Bool, Some, None, Option, length, refl, ap, IsSomeAnd}
-use Rattle.std.specs.Option.{MatchOption, option_and_then, option_map_or, option_or, is_none}
+use Rattle.std.specs.Option.{MatchOption, option_and_then, option_map_or, option_or, is_none, option_map}
 use Rattle.std.specs.Bool.{then_some}
 use Rattle.buffers.specs.Places.{or_else, shifted}
 use Rattle.body.specs.declared.message.Time.{Time}
 use Rattle.body.specs.declared.message.Channel.{Channel}
 use Rattle.body.specs.declared.message.Content.{Content}
-use Rattle.body.specs.Messages.{option, identified}
+use Rattle.body.specs.Messages.{identified}
 use Rattle.body.specs.Format.{time_wrong, until_wrong, content_wrong, channel_bytes, neither}
 
 pub chained : {A B : Type 0} (f : A → Option B) (o : Option A) (r : Option B) (P : A → Type 0) → MatchOption o (r ≡ None) P → ((x : A) → P x → r ≡ f x) → r ≡ option_and_then f o
@@ -30,11 +30,11 @@ pub until_place : (u : Option Time) → option_and_then (time_wrong 3) u ≡ unt
 until_place (Some t) = refl
 until_place None = refl
 
-pub content_place : (ok : ℕ → Bool) (o : Option Content) → option_and_then (λ c. content_wrong ok (Some (identified c))) o ≡ content_wrong ok (option identified o)
+pub content_place : (ok : ℕ → Bool) (o : Option Content) → option_and_then (λ c. content_wrong ok (Some (identified c))) o ≡ content_wrong ok (option_map identified o)
 content_place ok (Some c) = refl
 content_place ok None = refl
 
-pub nothing_place : (o : Option Content) (h : Option Channel) → then_some (is_none o && is_none h) 0 ≡ neither (option identified o) h
+pub nothing_place : (o : Option Content) (h : Option Channel) → then_some (is_none o && is_none h) 0 ≡ neither (option_map identified o) h
 nothing_place (Some c) h = refl
 nothing_place None (Some h) = refl
 nothing_place None None = refl

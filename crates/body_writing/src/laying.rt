@@ -1,8 +1,8 @@
 // The fields of a message as bytes, reserved bits as ones, and laid into an output, one after another.
-ghost use Rattle.std.specs.Prelude.{◌≡◌, ◌≤◌, None, Some};
+ghost use Rattle.std.specs.Prelude.{◌≡◌, ◌≤◌, None, Some, option_map};
 ghost use Rattle.body.specs.Format.{ones, time_bytes, content_bytes, channel_bytes, flags_byte, content_id_bytes, content_wrong, content_id_wrong};
 ghost use Rattle.body.specs.Identifiers.{is_alphanumeric};
-ghost use Rattle.body.specs.Messages.{option, identified, said_content_id};
+ghost use Rattle.body.specs.Messages.{identified, said_content_id};
 ghost use Rattle.body_writing.specs.Outputs.{Lays, or_nothing};
 
 use body::{
@@ -35,7 +35,7 @@ pub(crate) fn channel_as_bytes(channel: Channel) -> [u8; CHANNEL_SIZE]
 
 // The first byte: which parts follow, and six ones.
 fn first_byte(message: &ContentId) -> u8
-    ensures { result ≡ flags_byte ones.flags (option identified message.now.content) message.now.channel }
+    ensures { result ≡ flags_byte ones.flags (option_map identified message.now.content) message.now.channel }
 {
     let content = message.content.map_or(0, |_| CONTENT_FLAG);
     let channel = message.channel.map_or(0, |_| CHANNEL_FLAG);
@@ -54,8 +54,8 @@ fn lay_part<const N: usize>(out: &mut [u8], at: usize, part: Option<[u8; N]>) ->
 
 // Writes a content where there is one, and answers where it ends: a one, whether valid-until follows, type; length; time; identifier.
 fn lay_content(out: &mut [u8], at: usize, content: &Option<Content>) -> Option<usize>
-    requires { content_wrong is_alphanumeric (option identified content.now) ≡ None }
-    ensures { Lays at (content_bytes ones (option identified content.now)) out.old result out.new }
+    requires { content_wrong is_alphanumeric (option_map identified content.now) ≡ None }
+    ensures { Lays at (content_bytes ones (option_map identified content.now)) out.old result out.new }
 {
     let Some(content) = content else {
         return Some(at);

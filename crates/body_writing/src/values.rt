@@ -1,8 +1,8 @@
 // The values of a message that no body can have, in the order of their places, and how many bytes a message takes.
-ghost use Rattle.std.specs.Prelude.{◌≡◌, ◌+◌, ◌^◌, ◌<◌, length, Some};
+ghost use Rattle.std.specs.Prelude.{◌≡◌, ◌+◌, ◌^◌, ◌<◌, length, Some, option_map};
 ghost use Rattle.body.specs.Format.{ones, content_bytes, content_id_bytes, time_wrong, content_wrong, channel_wrong, content_id_wrong};
 ghost use Rattle.body.specs.Identifiers.{is_alphanumeric};
-ghost use Rattle.body.specs.Messages.{option, identified, said_content_id};
+ghost use Rattle.body.specs.Messages.{identified, said_content_id};
 
 use body::{
     CHANNEL_NUMBER_MOST, CHANNEL_SIZE, Channel, Content, ContentId, FLAGS_SIZE, LENGTH_PLACE,
@@ -12,7 +12,7 @@ use body::{
 
 // Where the channel of a message begins in its body, or would.
 fn channel_place(message: &ContentId) -> usize
-    ensures place { result ≡ 1 + length (content_bytes ones (option identified message.now.content)) }
+    ensures place { result ≡ 1 + length (content_bytes ones (option_map identified message.now.content)) }
     ensures near { result < 2 ^ 63 + 9 }
 {
     message.content.map_or(FLAGS_SIZE, |content| content.end())

@@ -2,8 +2,9 @@ use Rattle.std.proofs.Common.{◌≡◌, ◌<◌, ◌≤◌, length, None, Some,
 use Rattle.std.proofs.lemmas.Result.{err_from_is_err_and}
 use Rattle.std.proofs.lemmas.Bool.{lt-ltb, le-ltb}
 use Rattle.refusal.specs.declared.Refusal.TheVariants.{Body}
+use Rattle.std.specs.Option.{option_map}
 use Rattle.body.specs.Identifiers.{is_alphanumeric}
-use Rattle.body.specs.Messages.{content_id, option, identified, said_content_id}
+use Rattle.body.specs.Messages.{content_id, identified, said_content_id}
 use Rattle.body.specs.Reading.{content_part_fault, content_part_of, channel_at, channel_part_of, end_of, content_id_fault, content_id_of}
 use Rattle.buffers.specs.Places.{told}
 use Rattle.buffers.proofs.Steps.{clear, refused, refuses, done, stop, fails, passes}
@@ -30,7 +31,7 @@ returns-in_err-content c =
     let some = subst (λ x. 64 ≤ x) flags.1 c.if-flags-lt-CHANNEL_FLAG.false in
     let content = content_read is_alphanumeric b c.in_ok-flags.field-0 c.then.result _ flags.1 c.then.ensures.variant c.then.ensures.some (λ r k. search (rules, tests)) in
     let r = err_from_is_err_and c.from_residual-in_err-content.result c.from_residual-in_err-content.ensures.1 in
-    refused Body said_content_id c.from_residual-in_err-content.result r.0 c.in_err-content.field-0.0 (content_part_fault is_alphanumeric b) (content_id_fault is_alphanumeric b) (content_part_of b) (content_id_of b) r.1 r.2 (ap (told (option identified)) c.in_err-content.ensures ∙ content)
+    refused Body said_content_id c.from_residual-in_err-content.result r.0 c.in_err-content.field-0.0 (content_part_fault is_alphanumeric b) (content_id_fault is_alphanumeric b) (content_part_of b) (content_id_of b) r.1 r.2 (ap (told (option_map identified)) c.in_err-content.ensures ∙ content)
     (λ p e. fault_at_content is_alphanumeric b flags.0 some ∙ stop (content_part_fault is_alphanumeric b) _ p e)
 
 pub returns-in_err-channel : goal.returns-in_err-channel
@@ -39,7 +40,7 @@ returns-in_err-channel c =
     let at = c.map_or-at.result in
     let flags = first_read b c.in_ok-flags.field-0 c.in_ok-flags.ensures in
     let some = subst (λ x. 64 ≤ x) flags.1 c.if-flags-lt-CHANNEL_FLAG.false in
-    let content = clear Body _ _ _ (ap (told (option identified)) c.in_ok-content.ensures ∙ content_read is_alphanumeric b c.in_ok-flags.field-0 c.then.result _ flags.1 c.then.ensures.variant c.then.ensures.some (λ r k. search (rules, tests))) in
+    let content = clear Body _ _ _ (ap (told (option_map identified)) c.in_ok-content.ensures ∙ content_read is_alphanumeric b c.in_ok-flags.field-0 c.then.result _ flags.1 c.then.ensures.variant c.then.ensures.some (λ r k. search (rules, tests))) in
     let begins = channel_begins is_alphanumeric b c.in_ok-content.content at content.0 content.1 (mapped _ c.in_ok-content.content 1 at _ c.map_or-at.ensures (λ x k. search (rules, tests))) in
     let channel = channel_read b c.in_ok-flags.field-0 at c.then-2.result _ flags.1 c.then-2.ensures.variant c.then-2.ensures.some (λ r k. search (rules, tests)) begins in
     let r = err_from_is_err_and c.from_residual-in_err-channel.result c.from_residual-in_err-channel.ensures.1 in
@@ -52,7 +53,7 @@ returns-then-end-body c =
     let at = c.map_or-at.result in
     let flags = first_read b c.in_ok-flags.field-0 c.in_ok-flags.ensures in
     let some = subst (λ x. 64 ≤ x) flags.1 c.if-flags-lt-CHANNEL_FLAG.false in
-    let content = clear Body _ _ _ (ap (told (option identified)) c.in_ok-content.ensures ∙ content_read is_alphanumeric b c.in_ok-flags.field-0 c.then.result _ flags.1 c.then.ensures.variant c.then.ensures.some (λ r k. search (rules, tests))) in
+    let content = clear Body _ _ _ (ap (told (option_map identified)) c.in_ok-content.ensures ∙ content_read is_alphanumeric b c.in_ok-flags.field-0 c.then.result _ flags.1 c.then.ensures.variant c.then.ensures.some (λ r k. search (rules, tests))) in
     let begins = channel_begins is_alphanumeric b c.in_ok-content.content at content.0 content.1 (mapped _ c.in_ok-content.content 1 at _ c.map_or-at.ensures (λ x k. search (rules, tests))) in
     let channel : (channel_part b ≡ None) × (c.in_ok-channel.channel ≡ channel_part_of (channel_at b) b) = clear Body _ _ _ (c.in_ok-channel.ensures ∙ channel_read b c.in_ok-flags.field-0 at c.then-2.result _ flags.1 c.then-2.ensures.variant c.then-2.ensures.some (λ r k. search (rules, tests)) begins) in
     let end = channel_ends b at c.map_or-end.result c.in_ok-channel.channel begins channel.1 (mapped _ c.in_ok-channel.channel at c.map_or-end.result _ c.map_or-end.ensures (λ x k. search (rules, tests))) in
@@ -66,7 +67,7 @@ returns c =
     let at = c.map_or-at.result in
     let flags = first_read b c.in_ok-flags.field-0 c.in_ok-flags.ensures in
     let some = subst (λ x. 64 ≤ x) flags.1 c.if-flags-lt-CHANNEL_FLAG.false in
-    let content = clear Body _ _ _ (ap (told (option identified)) c.in_ok-content.ensures ∙ content_read is_alphanumeric b c.in_ok-flags.field-0 c.then.result _ flags.1 c.then.ensures.variant c.then.ensures.some (λ r k. search (rules, tests))) in
+    let content = clear Body _ _ _ (ap (told (option_map identified)) c.in_ok-content.ensures ∙ content_read is_alphanumeric b c.in_ok-flags.field-0 c.then.result _ flags.1 c.then.ensures.variant c.then.ensures.some (λ r k. search (rules, tests))) in
     let begins = channel_begins is_alphanumeric b c.in_ok-content.content at content.0 content.1 (mapped _ c.in_ok-content.content 1 at _ c.map_or-at.ensures (λ x k. search (rules, tests))) in
     let channel : (channel_part b ≡ None) × (c.in_ok-channel.channel ≡ channel_part_of (channel_at b) b) = clear Body _ _ _ (c.in_ok-channel.ensures ∙ channel_read b c.in_ok-flags.field-0 at c.then-2.result _ flags.1 c.then-2.ensures.variant c.then-2.ensures.some (λ r k. search (rules, tests)) begins) in
     let end = channel_ends b at c.map_or-end.result c.in_ok-channel.channel begins channel.1 (mapped _ c.in_ok-channel.channel at c.map_or-end.result _ c.map_or-end.ensures (λ x k. search (rules, tests))) in
