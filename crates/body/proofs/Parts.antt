@@ -103,13 +103,19 @@ ends_there ok b true e =
     λ i. place_read (has_until b) (time_at 3 b) i + size i
 ends_there ok b false e = refl
 
--- where the channel begins, by the content that was read before it
-pub channel_begins : (ok : ℕ → Bool) (b : List ℕ) (o : Option Content) (at : ℕ) → content_part_fault ok b ≡ None → option_map identified o ≡ content_part_of b → at ≡ option_map_or (λ c. ends (identified c)) o 1 → at ≡ channel_at b
-channel_begins ok b o at f e h = h ∙ (ends_read o ∙ (ap (λ x. option_map_or ends x 1) e ∙ ends_there ok b (has_content b) f))
+-- once the content is read: nothing is wrong with it, what it says, and where the channel begins
+pub content_clear : (ok : ℕ → Bool) (b h : List ℕ) (o : Option (Result Content Refusal)) (P : Result Content Refusal → Type 0) (c : Option Content) (at : ℕ) (Q : Content → Type 0) → slice_index h 0 ≡ slice_index b 0 → is_some o ≡ nat_le 128 (slice_index h 0) → IfSome o P → ((r : Result Content Refusal) → P r → told identified r ≡ reading (content_fault ok) content_of b)
+    → Ok c ≡ option_transpose o → MatchOption c (at ≡ 1) Q → ((x : Content) → Q x → at ≡ ends (identified x)) → (content_part_fault ok b ≡ None) × ((option_map identified c ≡ content_part_of b) × (at ≡ channel_at b))
+content_clear ok b h o P c at Q f s p g e m n =
+    let k : (content_part_fault ok b ≡ None) × (option_map identified c ≡ content_part_of b) = clear Body _ _ _ (ap (told (option_map identified)) e ∙ content_read ok b h o P f s p g) in
+    (k.0, (k.1, mapped (λ c. ends (identified c)) c 1 at Q m n ∙ (ends_read c ∙ (ap (λ x. option_map_or ends x 1) k.1 ∙ ends_there ok b (has_content b) k.0))))
 
--- where it ends
-pub channel_ends : (b : List ℕ) (at end : ℕ) (o : Option Channel) → at ≡ channel_at b → o ≡ channel_part_of (channel_at b) b → end ≡ option_map_or (λ c. at + 5) o at → end ≡ end_of b
-channel_ends b at end o a e h = h ∙ (ap (λ x. option_map_or (λ c. at + 5) x at) e ∙ (by_flag (has_channel b) ∙ ap (λ p. cond (has_channel b) (p + 5) p) a))
+-- once the channel is read too, and where it ends
+pub channel_clear : (b h : List ℕ) (at : ℕ) (o : Option (Result Channel Refusal)) (P : Result Channel Refusal → Type 0) (c : Option Channel) (end : ℕ) (Q : Channel → Type 0) → slice_index h 0 ≡ slice_index b 0 → is_some o ≡ nat_le 64 (slice_index h 0 % 128) → IfSome o P → ((r : Result Channel Refusal) → P r → r ≡ reading (channel_fault at) (channel_of at) b)
+    → at ≡ channel_at b → Ok c ≡ option_transpose o → MatchOption c (end ≡ at) Q → ((x : Channel) → Q x → end ≡ at + 5) → (channel_part b ≡ None) × ((c ≡ channel_part_of (channel_at b) b) × (end ≡ end_of b))
+channel_clear b h at o P c end Q f s p g a e m n =
+    let k : (channel_part b ≡ None) × (c ≡ channel_part_of (channel_at b) b) = clear Body _ _ _ (e ∙ channel_read b h at o P f s p g a) in
+    (k.0, (k.1, mapped (λ c. at + 5) c at end Q m n ∙ (ap (λ x. option_map_or (λ c. at + 5) x at) k.1 ∙ (by_flag (has_channel b) ∙ ap (λ p. cond (has_channel b) (p + 5) p) a))))
   where
     by_flag : (t : Bool) → option_map_or (λ c. at + 5) (present t (channel_of (channel_at b) b)) at ≡ cond t (at + 5) at
     by_flag true = refl

@@ -32,8 +32,8 @@ pub trait Format {
     fn takes(number: u8) -> bool
         ensures answer { result ≡ numbers number };
 
-    // Reads a body and lets the message go. Each impl maps its own reading: no default can name `Kind` at every lifetime, and
-    // a generic function over `Kind` would lead back to the impl that calls it.
+    // Reads a body and lets the message go.
+    // In each impl: a default can't name `Kind` at every lifetime, and a generic function over it leads back to the impl.
     fn check(body: &[u8]) -> Result<(), Refusal>
         ensures answer { result ≡ told (λ _. tt) (reading fault says body.now) };
 
