@@ -1,5 +1,5 @@
 -- What the methods of an option answer, by what their closures do.
-use Rattle.std.proofs.Common.{◌≡◌, ℕ, ◌+◌, ◌&&◌, Bool, Some, None, Option, length, refl, ap, IsSomeAnd}
+use Rattle.std.proofs.Common.{◌≡◌, ℕ, ◌+◌, ◌&&◌, Bool, Some, None, Option, length, refl, ap, ◌∙◌, IsSomeAnd}
 use Rattle.std.specs.Option.{MatchOption, option_and_then, option_map_or, option_or, is_none, option_map}
 use Rattle.std.specs.Bool.{then_some}
 use Rattle.buffers.specs.Places.{or_else, shifted}
@@ -34,10 +34,13 @@ pub content_place : (ok : ℕ → Bool) (o : Option Content) → option_and_then
 content_place ok (Some c) = refl
 content_place ok None = refl
 
-pub nothing_place : (o : Option Content) (h : Option Channel) → then_some (is_none o && is_none h) 0 ≡ neither (option_map identified o) h
-nothing_place (Some c) h = refl
-nothing_place None (Some h) = refl
-nothing_place None None = refl
+neither_there : (o : Option Content) (h : Option Channel) → then_some (is_none o && is_none h) 0 ≡ neither (option_map identified o) h
+neither_there (Some c) h = refl
+neither_there None (Some h) = refl
+neither_there None None = refl
+
+pub nothing_place : (o : Option Content) (h : Option Channel) (t : Bool) → t ≡ is_none o && is_none h → then_some t 0 ≡ neither (option_map identified o) h
+nothing_place o h t e = ap (λ x. then_some x 0) e ∙ neither_there o h
 
 pub channel_size : (h : Option Channel) → option_map_or (λ x. 5) h 0 ≡ length (channel_bytes 15 h)
 channel_size (Some h) = refl

@@ -1,5 +1,5 @@
 -- Messages as they are written, and what a written output holds.
-use Rattle.std.proofs.Common.{◌≡◌, ℕ, ◌+◌, ◌≤◌, Bool, true, false, cond, ltb, List, length, take, Some, None, Ok, Err, Option, Result, sym, refl, ap, ◌∙◌, arith}
+use Rattle.std.proofs.Common.{◌≡◌, ℕ, ◌+◌, ◌-◌, ◌≤◌, Bool, true, false, cond, ltb, List, length, take, Some, None, Ok, Err, Option, Result, sym, refl, ap, ◌∙◌, arith}
 use Rattle.std.proofs.lemmas.List.{length-append, take_at}
 use Rattle.std.proofs.lemmas.Bool.{ltb-false}
 use Rattle.refusal.specs.declared.Refusal.{Refusal}
@@ -34,8 +34,12 @@ by_room false None body out after n why e f =
     let l : n ≡ length body = cc in
     (refl, ap (take n) f ∙ take_at body _ n (sym l))
 
-pub written : (w : Option ℕ) (body out after : List ℕ) (n : ℕ) → Ok n ≡ answer_for w body out → after ≡ output_for w body out → (w ≡ None) × (take n after ≡ body)
+written : (w : Option ℕ) (body out after : List ℕ) (n : ℕ) → Ok n ≡ answer_for w body out → after ≡ output_for w body out → (w ≡ None) × (take n after ≡ body)
 written w body out after n e f = by_room _ w body out after n _ e f
+
+-- what reads the body as a message reads what was written as that message
+pub read_back : {A : Type 0} (f : List ℕ → A) (x : A) (w : Option ℕ) (body out after : List ℕ) (n : ℕ) → Ok n ≡ answer_for w body out → after ≡ output_for w body out → (w ≡ None → x ≡ f body) → f (take n after) ≡ x
+read_back f x w body out after n e d back = let was = written w body out after n e d in ap f was.1 ∙ sym (back was.0)
 
 -- and within it
 by_room_within : (t : Bool) (w : Option ℕ) (body out : List ℕ) (n : ℕ) (why : Refusal) → ltb (length out) (length body) ≡ t → Ok n ≡ cond t (Err why) (unless Body w (length body)) → n ≤ length out
@@ -48,8 +52,12 @@ by_room_within false None body out n why h e =
 pub written_within : (w : Option ℕ) (body out : List ℕ) (n : ℕ) → Ok n ≡ answer_for w body out → n ≤ length out
 written_within w body out n e = by_room_within (ltb (length out) (length body)) w body out n _ refl e
 
-pub never : {A B : Type 0} (f : A → B) (r : Result A Refusal) (m : A) (why : Refusal) → Err why ≡ told f r → r ≡ Ok m → ⊥
-never f r m why e h = let k : told f r ≡ Ok (f m) = ap (told f) h in let z : ◌≡◌ {A = ℕ} 0 1 = cc in absurd (omega arith)
+-- what is read as a message is not refused
+pub never : {A B : Type 0} (f : A → B) (read : List ℕ → Result A Refusal) (x : A) (after : List ℕ) (n : ℕ) (why : Refusal) → Err why ≡ told f (read (take (n - 0) after)) → read (take n after) ≡ Ok x → ⊥
+never f read x after n why e h =
+    let whole : n - 0 ≡ n = omega arith in
+    let k : Err why ≡ told f (Ok x) = e ∙ (ap (λ i. told f (read (take i after))) whole ∙ ap (told f) h) in
+    cc k
 
 -- where the output has room, a message is refused at its smallest wrong place; where it has none, by the output's length
 by_room_refuses : (t : Bool) (W : ℕ → Type 0) (w : Option ℕ) (n l : ℕ) (r : Result ℕ Refusal) → r ≡ cond t (Err (OutputLength l)) (unless Body w n) → Smallest W w → RefusesFirst W r

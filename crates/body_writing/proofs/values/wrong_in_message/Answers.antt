@@ -1,6 +1,5 @@
 use Rattle.std.proofs.Common.{rules, tests, ◌≡◌, ◌&&◌, Some, None, sym, ap, ◌∙◌}
 use Rattle.std.specs.Option.{is_none, option_map}
-use Rattle.std.specs.Bool.{then_some}
 use Rattle.buffers.specs.Places.{or_else}
 use Rattle.buffers.proofs.Steps.{only}
 use Rattle.body.specs.Format.{content_wrong, channel_wrong, neither, content_id_wrong}
@@ -15,7 +14,7 @@ unfolding content_id_wrong
 returns c =
     let m = c.args.message.now in
     let none : c.if-is_none.nothing ≡ is_none m.content && is_none m.channel = elim c.if-is_none.branch [ then-is_none w ↦ search rules | else-is_none w ↦ search rules ] in
-    let nothing : c.then_some.result ≡ neither (option_map identified m.content) m.channel = c.then_some.ensures ∙ (ap (λ t. then_some t 0) none ∙ nothing_place m.content m.channel) in
+    let nothing : c.then_some.result ≡ neither (option_map identified m.content) m.channel = c.then_some.ensures ∙ nothing_place m.content m.channel c.if-is_none.nothing none in
     let content : c.and_then-content.result ≡ content_wrong is_alphanumeric (option_map identified m.content) =
     chained (λ x. content_wrong is_alphanumeric (Some (identified x))) m.content c.and_then-content.result _ c.and_then-content.ensures (λ x k. search (rules, tests)) ∙ content_place is_alphanumeric m.content in
     let channel = c.wrong_in_channel-channel.ensures ∙ ap (λ p. channel_wrong p m.channel) c.channel_place.ensures.place in
