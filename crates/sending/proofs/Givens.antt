@@ -1,20 +1,17 @@
 -- Given parts: which of them is too long, and what those keep of which none is.
-use Rattle.std.proofs.Common.{◌≡◌, ℕ, zero, suc, ◌+◌, ◌<◌, ◌≤◌, Bool, true, false, cond, ◌||◌, eqb, ltb, leb, List, [], ◌∷◌, ◌++◌, length, get_or, take, drop, Some, None, Option, refl, ap, ◌∙◌, subst, arith, Bor}
+use Rattle.std.proofs.Common.{◌≡◌, ℕ, zero, suc, ◌+◌, ◌<◌, ◌≤◌, Bool, true, false, cond, ltb, List, [], ◌∷◌, ◌++◌, length, get_or, take, drop, Some, None, Option, refl, ◌∙◌, subst, arith, Bor}
 use Rattle.std.proofs.lemmas.List.{drop_more, get_or-map, length-map, length-append}
-use Rattle.std.proofs.lemmas.Bool.{cond-true, cond-false, cond_both, lt-ltb, le-ltb, ltb-false, or_parts, eqb-false, eq-eqb, ne_eqb, le-leb}
+use Rattle.std.proofs.lemmas.Bool.Decides.{nat_tests}
+use Rattle.std.proofs.lemmas.Bool.{cond-false, le-ltb, ltb-false}
 use Rattle.sending.specs.Storage.{joint, Plain}
 use Rattle.sending.specs.Given.{part_limit, first_long, texts, unsuited}
 
 module _ (n i : ℕ) (ps : List (List ℕ)) (h : i < length ps) where
   pub long_here : part_limit n i < length (get_or ps i []) → first_long n i (drop i ps) ≡ Some (length (get_or ps i []))
-  long_here l =
-      ap (first_long n i) (drop_more ps i [] h)
-      ∙ cond-true (ltb (part_limit n i) (length (get_or ps i []))) (Some (length (get_or ps i []))) (first_long n (i + 1) (drop (i + 1) ps)) (lt-ltb (part_limit n i) (length (get_or ps i [])) l)
+  long_here l = rw (drop_more ps i [] h) (grind (arith, nat_tests))
 
   pub long_next : length (get_or ps i []) ≤ part_limit n i → first_long n i (drop i ps) ≡ first_long n (i + 1) (drop (i + 1) ps)
-  long_next l =
-      ap (first_long n i) (drop_more ps i [] h)
-      ∙ cond-false (ltb (part_limit n i) (length (get_or ps i []))) (Some (length (get_or ps i []))) (first_long n (i + 1) (drop (i + 1) ps)) (le-ltb (part_limit n i) (length (get_or ps i [])) l)
+  long_next l = rw (drop_more ps i [] h) (grind (arith, nat_tests))
 
 passed : {X : Type 0} (b : Bool) (x : X) (r : Option X) → cond b (Some x) r ≡ None → (b ≡ false) × (r ≡ None)
 passed true x r e = absurd (let z : ◌≡◌ {A = ℕ} 0 1 = cc in omega arith)
@@ -39,16 +36,16 @@ none_long n j (p ∷ ps) s =
     ∙ none_long n (j + 1) ps (λ k h. subst (λ m. length (get_or ps k []) ≤ part_limit n m) (omega arith) (s (suc k) (omega arith)))
 
 pub limit_most : (n k : ℕ) → part_limit n k ≤ 51
-limit_most n k = cond_both (leb 2 n) (cond (eqb (k + 1) n) 47 51) 51 (λ x. x ≤ 51) (λ _. cond_both (eqb (k + 1) n) 47 51 (λ x. x ≤ 51) (λ _. omega arith) (λ _. omega arith)) (λ _. omega arith)
+limit_most n k = grind (arith, nat_tests)
 
 pub limit_last : (n k : ℕ) → 2 ≤ n → k + 1 ≡ n → part_limit n k ≡ 47
-limit_last n k h e = cond-true (leb 2 n) (cond (eqb (k + 1) n) 47 51) 51 (le-leb 2 n h) ∙ cond-true (eqb (k + 1) n) 47 51 (eq-eqb (k + 1) n e)
+limit_last n k h e = grind (arith, nat_tests)
 
 pub limit_least : (n k : ℕ) → 47 ≤ part_limit n k
-limit_least n k = cond_both (leb 2 n) (cond (eqb (k + 1) n) 47 51) 51 (λ x. 47 ≤ x) (λ _. cond_both (eqb (k + 1) n) 47 51 (λ x. 47 ≤ x) (λ _. omega arith) (λ _. omega arith)) (λ _. omega arith)
+limit_least n k = grind (arith, nat_tests)
 
 pub limit_inner : (n k : ℕ) → (k + 1 ≡ n → ⊥) → part_limit n k ≡ 51
-limit_inner n k h = cond_both (leb 2 n) (cond (eqb (k + 1) n) 47 51) 51 (λ x. x ≡ 51) (λ _. cond-false (eqb (k + 1) n) 47 51 (ne_eqb (k + 1) n h)) (λ _. refl)
+limit_inner n k h = grind (arith, nat_tests)
 
 -- parts of which none is too long have at most 200 bytes
 pub total : (ps : List (List ℕ)) → first_long (length ps) 0 ps ≡ None → length ps ≤ 4 → length (joint ps) ≤ 200
@@ -72,13 +69,7 @@ nowhere = record { ref_ptr = (0, 0); now = [] }
 
 -- what a suited number, version and count keep
 pub suited : (n v k : ℕ) → unsuited n v k ≡ false → (1 ≤ n) × (v ≤ 15) × (1 ≤ k) × (k ≤ 4)
-suited n v k e =
-    let p = or_parts (eqb n 0) (ltb 15 v || (eqb k 0 || ltb 4 k)) e in
-    let q = or_parts (ltb 15 v) (eqb k 0 || ltb 4 k) p.1 in
-    let r = or_parts (eqb k 0) (ltb 4 k) q.1 in
-    let n0 : n ≡ 0 → ⊥ = eqb-false n 0 p.0 in
-    let k0 : k ≡ 0 → ⊥ = eqb-false k 0 r.0 in
-    (omega arith, ltb-false 15 v q.0, omega arith, ltb-false 4 k r.1)
+suited n v k e = grind (arith, nat_tests)
 
 -- ---- one part more
 pub room_next : (ps : List (List ℕ)) (i : ℕ) → i < length ps → length (joint (take i ps)) + length (get_or ps i []) ≤ length (joint ps)

@@ -1,9 +1,10 @@
 -- The pieces of a message that is cut: how many, how long, and that they join to it.
 use Rattle.std.proofs.Common.{◌≡◌, ℕ, zero, suc, ◌+◌, ◌-◌, ◌*◌, ◌<◌, ◌≤◌, min, false, cond, ltb, leb, ◌⊎◌, List, [], ◌∷◌, ◌++◌, length, get_or, take, drop, None, Ok, Err, sym, refl, ap, ◌∙◌, subst, inl, inr, ⊎_elim, append-nil, suc-mul, zero-mul, arith}
 use Rattle.refusal.specs.declared.Refusal.TheVariants.{TooLong, NotOfASending}
-use Rattle.std.proofs.lemmas.List.{length-take, length-drop, take_all, drop_all, take-append-drop}
+use Rattle.std.proofs.lemmas.List.{length-take, length-drop, take-append-drop}
 use Rattle.std.proofs.lemmas.Bool.{cond-true, cond-false, le-leb, lt-leb, lt-ltb, le-ltb, cases_lt}
 use Rattle.std.proofs.lemmas.Bool.Decides.{nat_tests}
+use Rattle.std.proofs.lemmas.Grind.{common_steps}
 use Rattle.sending.specs.Sendings.{IsSending}
 use Rattle.sending.specs.Storage.{joint, Plain}
 use Rattle.sending.specs.declared.room.Room.{Room}
@@ -15,18 +16,10 @@ use Rattle.sending.proofs.Givens.{none_long, limit_least, limit_inner, suited}
 
 -- ---- the first bytes, as many as there are
 pub take_up_to : (xs : List ℕ) (w t : ℕ) → t ≡ min w (length xs) → take t xs ≡ take w xs
-take_up_to xs w t e =
-    ⊎_elim
-    (λ (h : length xs < w). take_all t xs (omega arith) ∙ sym (take_all w xs (omega arith)))
-    (λ (h : w ≤ length xs). let n : t ≡ w = omega arith in ap (λ i. take i xs) n)
-    (cases_lt (length xs) w)
+take_up_to xs w t e = grind (arith, common_steps)
 
 pub drop_up_to : (xs : List ℕ) (w t : ℕ) → t ≡ min w (length xs) → drop t xs ≡ drop w xs
-drop_up_to xs w t e =
-    ⊎_elim
-    (λ (h : length xs < w). drop_all t xs (omega arith) ∙ sym (drop_all w xs (omega arith)))
-    (λ (h : w ≤ length xs). let n : t ≡ w = omega arith in ap (λ i. drop i xs) n)
-    (cases_lt (length xs) w)
+drop_up_to xs w t e = grind (arith, common_steps)
 
 -- ---- n pieces and the rest
 pieces_length : (n w : ℕ) (m : List ℕ) → length (pieces n w m) ≡ n + 1

@@ -1,27 +1,9 @@
 -- The rule that every sending keeps: the one file that opens IsSending. What it gives, and what shows it.
-use mathlib.Core.Logic.{∥∥₁_elim}
-use mathlib.Core.HLevel.{Π_prop, ×_prop}
-use native.Mathlib.Bridge.{le_prop}
-use Rattle.std.proofs.Common.{◌≡◌, ℕ, ◌-◌, ◌<◌, ◌≤◌, false, List, [], length, get_or, None, subst, arith}
+use Rattle.std.proofs.Common.{◌≡◌, ℕ, ◌-◌, ◌<◌, ◌≤◌, false, List, [], length, get_or, None, sym, ap, ◌∙◌, subst, arith, Bor}
 use Rattle.sending.specs.Sendings.{Sending, IsSending}
 use Rattle.sending.specs.Storage.{Plain}
-use Rattle.sending.specs.Given.{part_limit, first_long, unsuited}
-use Rattle.sending.proofs.Givens.{suited, short_parts, limit_most, limit_last}
-
--- two proofs of the rule are one
-pub one_rule : (s : Sending) → IsProp (IsSending s)
-one_rule s x y i =
-    record {
-      number_stands = ×_prop le_prop le_prop x.number_stands y.number_stands i;
-      version_stands = le_prop x.version_stands y.version_stands i;
-      one_to_four = ×_prop le_prop le_prop x.one_to_four y.one_to_four i;
-      parts_fit = Π_prop (λ k. Π_prop (λ h. le_prop)) x.parts_fit y.parts_fit i;
-      last_fits = Π_prop (λ h. le_prop) x.last_fits y.last_fits i;
-      bytes_stand = Π_prop (λ k. Π_prop (λ j. Π_prop (λ h. Π_prop (λ l. le_prop)))) x.bytes_stand y.bytes_stand i;
-    }
-
-pub kept : (s : Sending) → ∥ IsSending s ∥₁ → IsSending s
-kept s h = ∥∥₁_elim h (one_rule s) (λ r. r)
+use Rattle.sending.specs.Given.{part_limit, first_long, texts, unsuited}
+use Rattle.sending.proofs.Givens.{texts_length, suited, short_parts, limit_most, limit_last}
 
 -- the numbers of a sending
 pub numbers : (s : Sending) → IsSending s → (1 ≤ s.number) × (s.number ≤ 255) × (s.version ≤ 15) × (1 ≤ length s.parts) × (length s.parts ≤ 4)
@@ -49,3 +31,9 @@ rule_of n v ps short suits small plain =
       last_fits = λ h. omega (arith, f (length ps - 1) (omega arith), limit_last (length ps) (length ps - 1) h (omega arith));
       bytes_stand = plain;
     }
+
+-- the same, of what lies in given slices
+pub rule_given : (n v : ℕ) (given : List (Bor (List ℕ))) (ps : List (List ℕ)) → None ≡ first_long (length (texts given)) 0 (texts given) → false ≡ unsuited n v (length given) → n < 256 → ps ≡ texts given → Plain ps
+    → IsSending (record { number = n; version = v; parts = ps })
+rule_given n v given ps short suits small is plain =
+    rule_of n v ps (ap (λ qs. first_long (length qs) 0 qs) is ∙ sym short) (ap (λ qs. unsuited n v (length qs)) is ∙ ap (unsuited n v) (texts_length given) ∙ sym suits) small plain

@@ -1,6 +1,7 @@
 // One block, as it is read or to be written.
 
-// One part of a message, with what its block says of it. It borrows its body.
+// One part of a message, with what its block says of it. It borrows its body. It has no model, since callers match on its
+// fields: clauses say what it means by `means`.
 #[derive(Clone, Copy, PartialEq, Eq, Debug)]
 pub struct Block<'a> {
     pub number: u8,

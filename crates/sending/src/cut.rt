@@ -1,5 +1,6 @@
 // A sending of a message that is cut.
-ghost use Rattle.std.specs.Prelude.{◌≡◌, ℕ, ◌-◌, ◌≤◌, length};
+ghost use Rattle.std.specs.Prelude.{◌≡◌, ℕ, ◌-◌, ◌≤◌, length, IfOk};
+ghost use Rattle.sending.specs.Sendings.{IsSending};
 ghost use Rattle.sending.specs.Cuts.{room_bytes, capacity, fitting, part_count, cut_parts, cutting, CutRight};
 ghost use Rattle.sending.specs.Storage.{Plain};
 
@@ -63,6 +64,7 @@ impl Sending {
     pub fn cut(number: u8, version: u8, message: &[u8], room: Room) -> Result<Sending, Refusal>
         ensures answer { result ≡ cutting (room_bytes room) number version message.now }
         ensures cut_is_smallest { CutRight (room_bytes room) message.now result }
+        ensures rule { IfOk result IsSending }
     {
         if message.len() > room.fits_into(PARTS_MOST) {
             return Err(Refusal::TooLong(message.len()));

@@ -1,5 +1,6 @@
 // A sending of given parts.
-ghost use Rattle.std.specs.Prelude.{◌≡◌, ◌-◌, ◌<◌, length};
+ghost use Rattle.std.specs.Prelude.{◌≡◌, ◌-◌, ◌<◌, length, IfOk};
+ghost use Rattle.sending.specs.Sendings.{IsSending};
 ghost use Rattle.sending.specs.Given.{part_limit, first_long, texts, unsuited, of_parts};
 
 use super::limits::{LAST_MOST, PART_MOST, PARTS_MOST, VERSION_MOST};
@@ -42,6 +43,7 @@ impl Sending {
     // A sending of given parts, refused where a part is too long, then where no sending has the number, version or count.
     pub fn of_parts(number: u8, version: u8, parts: &[&[u8]]) -> Result<Sending, Refusal>
         ensures answer { result ≡ of_parts (record { number = number; version = version; parts = texts parts.now }) }
+        ensures rule { IfOk result IsSending }
     {
         if let Some(length) = too_long(parts) {
             return Err(Refusal::TooLong(length));

@@ -1,5 +1,5 @@
 -- The fields of the block with which some bytes begin, and why it isn't read.
-use Rattle.std.specs.Prelude.{ℕ, ◌+◌, ◌-◌, ◌*◌, ◌/◌, ◌%◌, ◌≡◌, ◌≤◌, Bool, cond, not, ◌&&◌, ◌||◌, List, length, take, drop, Some, None, Option, ◌==◌, nat_lt, slice_index}
+use Rattle.std.specs.Prelude.{ℕ, ◌+◌, ◌-◌, ◌*◌, ◌/◌, ◌%◌, ◌≡◌, ◌≤◌, Bool, cond, not, ◌&&◌, ◌||◌, List, length, take, drop, Some, None, ◌==◌, nat_lt, slice_index}
 use Rattle.crc.specs.Crc.{crc}
 use Rattle.sending.specs.Sendings.{Block}
 use Rattle.walk.specs.declared.entry.Cause.{Cause}
@@ -57,11 +57,6 @@ cause_number Torn = 1
 cause_number Crc = 2
 cause_number Part = 3
 cause_number Short = 4
-
--- the same, with 0 for no cause
-abbrev pub cause_told : Option Cause → ℕ
-cause_told None = 0
-cause_told (Some c) = cause_number c
 
 -- the block with which the bytes begin, where there is no cause against it
 unfoldable pub block_at : List ℕ → Block

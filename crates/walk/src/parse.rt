@@ -23,6 +23,7 @@ fn covered(rest: &[u8]) -> Result<&[u8], Cause>
     if count < COUNT_LEAST || rest.len() < count + UNCOUNTED {
         return Err(Cause::Torn);
     }
+    // seven bytes at least, so these are never too few
     let (covered, word) = rest[..count + UNCOUNTED]
         .split_last_chunk()
         .ok_or(Cause::Torn)?;

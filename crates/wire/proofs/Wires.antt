@@ -1,5 +1,5 @@
 -- How long the pieces of a block are.
-use Rattle.std.proofs.Common.{◌≡◌, ℕ, ◌+◌, ◌-◌, ◌≤◌, length, Some, None, Option, refl, arith}
+use Rattle.std.proofs.Common.{◌≡◌, ℕ, ◌+◌, ◌-◌, ◌≤◌, length, Some, None, Option, arith}
 use Rattle.std.proofs.lemmas.List.{length-append}
 use Rattle.sending.specs.Sendings.{Block}
 use Rattle.wire.specs.Wire.{check_bytes, count, head, covered, block_bytes}
@@ -7,10 +7,6 @@ use Rattle.wire.specs.Wire.{check_bytes, count, head, covered, block_bytes}
 pub length_check : (k : Option ℕ) → length (check_bytes k) ≤ 4
 length_check None = omega arith
 length_check (Some w) = omega arith
-
-pub length_head : (b : Block) → length (head b) ≡ 3
-unfolding head
-length_head b = refl
 
 pub length_covered : (b : Block) → length (covered b) ≡ 3 + length b.body + length (check_bytes b.check)
 unfolding covered head

@@ -1,10 +1,11 @@
 -- What asking for a block answers, how long it is, and what writing it answers and leaves.
-use Rattle.std.proofs.Common.{◌≡◌, ℕ, ◌+◌, ◌<◌, ◌≤◌, Bool, true, false, cond, ltb, List, [], length, Ok, Err, Result, sym, refl, ap, ◌∙◌, ⊎_elim, arith}
+use Rattle.std.proofs.Common.{◌≡◌, ℕ, ◌+◌, ◌<◌, ◌≤◌, List, [], length, Ok, Err, Result, sym, refl, ap, ◌∙◌, ⊎_elim, arith}
 use Rattle.refusal.specs.declared.Refusal.{Refusal}
 use Rattle.refusal.specs.declared.Refusal.TheVariants.{OutputLength, NotOfASending}
 use Rattle.std.specs.Result.{result_unwrap_or}
 use Rattle.std.proofs.lemmas.List.{get_or_past}
-use Rattle.std.proofs.lemmas.Bool.{cond-true, cond-false, lt-ltb, le-ltb, cases_lt, ltb-true, ltb-false}
+use Rattle.std.proofs.lemmas.Bool.Decides.{nat_tests}
+use Rattle.std.proofs.lemmas.Bool.{cases_lt}
 use Rattle.buffers.specs.Laid.{laid}
 use Rattle.sending.specs.Sendings.{Sending, Block, IsSending, block}
 use Rattle.wire.specs.Wire.{check_bytes, block_bytes, Fits}
@@ -14,22 +15,14 @@ use Rattle.sending.proofs.Rules.{numbers, part_short}
 use Rattle.sending.proofs.Wants.{check_none}
 use Rattle.wire.proofs.Wires.{length_block}
 
-ok_picked : (t : Bool) (b y : Block) (e : Refusal) → ◌≡◌ {A = Result Block Refusal} (Ok b) (cond t (Ok y) (Err e)) → (t ≡ true) × (b ≡ y)
-ok_picked true b y e is = (refl, cc)
-ok_picked false b y e is = absurd (let z : ◌≡◌ {A = ℕ} 0 1 = cc in omega arith)
-
-err_picked : (t : Bool) (r : Refusal) (y : Block) (e : Refusal) → ◌≡◌ {A = Result Block Refusal} (Err r) (cond t (Ok y) (Err e)) → (t ≡ false) × (r ≡ e)
-err_picked true r y e is = absurd (let z : ◌≡◌ {A = ℕ} 0 1 = cc in omega arith)
-err_picked false r y e is = (refl, cc)
-
 module _ (s : Sending) (i : ℕ) where
   pub wanted_ok : (b : Block) → Ok b ≡ wanted s i → (i < length s.parts) × (b ≡ block s i)
   unfolding wanted
-  wanted_ok b e = let p = ok_picked (ltb i (length s.parts)) b (block s i) NotOfASending e in (ltb-true i (length s.parts) p.0, p.1)
+  wanted_ok b e = grind (arith, nat_tests)
 
   pub wanted_err : (r : Refusal) → Err r ≡ wanted s i → (length s.parts ≤ i) × (r ≡ NotOfASending)
   unfolding wanted
-  wanted_err r e = let p = err_picked (ltb i (length s.parts)) r (block s i) NotOfASending e in (ltb-false i (length s.parts) p.0, p.1)
+  wanted_err r e = grind (arith, nat_tests)
 
   pub size_is : size s i ≡ length (block_bytes (block s i))
   unfolding size
@@ -50,11 +43,11 @@ module _ (s : Sending) (i : ℕ) where
 
   pub length_none : length s.parts ≤ i → Err NotOfASending ≡ wanted_size s i
   unfolding wanted_size
-  length_none h = sym (cond-false (ltb i (length s.parts)) (Ok (size s i)) (Err NotOfASending) (le-ltb i (length s.parts) h))
+  length_none h = grind (arith, nat_tests)
 
   pub length_some : i < length s.parts → Ok (size s i) ≡ wanted_size s i
   unfolding wanted_size
-  length_some h = sym (cond-true (ltb i (length s.parts)) (Ok (size s i)) (Err NotOfASending) (lt-ltb i (length s.parts) h))
+  length_some h = grind (arith, nat_tests)
 
   -- the length, with that of a block without body where there is none
   pub size_found : (r : Result ℕ Refusal) (n : ℕ) → r ≡ wanted_size s i → n ≡ result_unwrap_or r 7 → n ≡ size s i
@@ -68,23 +61,12 @@ module _ (s : Sending) (i : ℕ) where
   module _ (at : ℕ) (out : List ℕ) where
     pub write_short : length out < at + size s i → (Err (OutputLength (length out)) ≡ writing s i at (length out)) × (out ≡ written s i at out)
     unfolding writing written
-    write_short h = (
-      sym (cond-true (ltb (length out) (at + size s i)) _ _ (lt-ltb (length out) (at + size s i) h)),
-      sym (cond-true (ltb (length out) (at + size s i)) out (cond (ltb i (length s.parts)) (laid out at (block_bytes (block s i))) out) (lt-ltb (length out) (at + size s i) h)),
-    )
+    write_short h = (grind (arith, nat_tests), grind (arith, nat_tests))
 
     pub write_above : at + size s i ≤ length out → length s.parts ≤ i → (Err NotOfASending ≡ writing s i at (length out)) × (out ≡ written s i at out)
     unfolding writing written
-    write_above h l = (
-      sym (cond-false (ltb (length out) (at + size s i)) _ _ (le-ltb (length out) (at + size s i) h) ∙ cond-false (ltb i (length s.parts)) _ _ (le-ltb i (length s.parts) l)),
-      sym (cond-false (ltb (length out) (at + size s i)) out (cond (ltb i (length s.parts)) (laid out at (block_bytes (block s i))) out) (le-ltb (length out) (at + size s i) h)
-          ∙ cond-false (ltb i (length s.parts)) (laid out at (block_bytes (block s i))) out (le-ltb i (length s.parts) l)),
-    )
+    write_above h l = (grind (arith, nat_tests), grind (arith, nat_tests))
 
     pub write_fits : at + size s i ≤ length out → i < length s.parts → (Ok (at + size s i) ≡ writing s i at (length out)) × (laid out at (block_bytes (block s i)) ≡ written s i at out)
     unfolding writing written
-    write_fits h l = (
-      sym (cond-false (ltb (length out) (at + size s i)) _ _ (le-ltb (length out) (at + size s i) h) ∙ cond-true (ltb i (length s.parts)) _ _ (lt-ltb i (length s.parts) l)),
-      sym (cond-false (ltb (length out) (at + size s i)) out (cond (ltb i (length s.parts)) (laid out at (block_bytes (block s i))) out) (le-ltb (length out) (at + size s i) h)
-          ∙ cond-true (ltb i (length s.parts)) (laid out at (block_bytes (block s i))) out (lt-ltb i (length s.parts) l)),
-    )
+    write_fits h l = (grind (arith, nat_tests), grind (arith, nat_tests))

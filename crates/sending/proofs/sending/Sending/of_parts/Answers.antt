@@ -1,9 +1,7 @@
-use Rattle.std.proofs.Common.{◌≡◌, List, ℕ, false, length, sym, ap, ◌∙◌, subst, arith}
-use Rattle.sending.specs.Sendings.{IsSending}
-use Rattle.sending.specs.Given.{texts, unsuited}
-use Rattle.sending.specs.Storage.{Plain}
+use Rattle.std.proofs.Common.{sym, arith}
+use Rattle.sending.specs.Given.{texts}
 use Rattle.sending.proofs.Givens.{texts_length, total}
-use Rattle.sending.proofs.Rules.{rule_of}
+use Rattle.sending.proofs.Rules.{rule_given}
 use Rattle.sending.proofs.sending.Sending.of_parts.Goals as goal
 
 pub of-requires-clause-room : goal.of-requires-clause-room
@@ -13,7 +11,8 @@ of-requires-clause-room c =
 
 pub invariant_of-result : goal.invariant_of-result
 invariant_of-result c =
-    let ps = texts c.args.parts.now in
-    let suits : unsuited c.args.number c.args.version (length ps) ≡ false = ap (unsuited c.args.number c.args.version) (texts_length c.args.parts.now) ∙ sym c.if-not_of_a_sending.ensures in
-    subst (λ (qs : List (List ℕ)). IsSending (record { number = c.args.number; version = c.args.version; parts = qs })) (sym c.of.ensures.parts)
-    (rule_of c.args.number c.args.version ps (sym c.in_default.ensures) suits (omega arith) (subst Plain c.of.ensures.parts c.of.ensures.plain))
+    rule_given c.args.number c.args.version c.args.parts.now c.of.result c.in_default.ensures c.if-not_of_a_sending.ensures (omega arith) c.of.ensures.parts c.of.ensures.plain
+
+pub returns-clause-rule : goal.returns-clause-rule
+returns-clause-rule c =
+    rule_given c.args.number c.args.version c.args.parts.now c.of.result c.in_default.ensures c.if-not_of_a_sending.ensures (omega arith) c.of.ensures.parts c.of.ensures.plain
