@@ -1,5 +1,5 @@
 // What is gathered over several frames.
-use crate::lines::{NUMBER, part, part_of, told, tray, watching};
+use crate::lines::{NUMBER, part, part_of, took, tray, watching};
 use std::process::Abort;
 use std::test::Fail;
 
@@ -7,10 +7,7 @@ use std::test::Fail;
 fn second_uses(rt: &impl Abort, first: u64, second: u64) -> Result<usize, Fail> {
     let mut reader = watching()?;
     let mut bytes = tray();
-    assert_eq!(rt;
-        told(reader.offer(first, &part(0)?, &mut bytes)),
-        Ok([30, 2, 0])
-    );
+    assert_eq!(rt; reader.offer(first, &part(0)?, &mut bytes), took(30, 2, 0));
     assert_eq!(rt; reader.held(NUMBER), Some(1));
     Ok(reader.offer(second, &part(1)?, &mut bytes)?.used)
 }
@@ -30,19 +27,10 @@ fn parts_join_within_255_frames(rt: HostRuntime) -> Result<(), Fail> {
 fn an_old_part_is_dropped(rt: HostRuntime) -> Result<(), Fail> {
     let mut reader = watching()?;
     let mut bytes = tray();
-    assert_eq!(rt;
-        told(reader.offer(1000, &part(0)?, &mut bytes)),
-        Ok([30, 2, 0])
-    );
-    assert_eq!(rt;
-        told(reader.offer(1256, &part(1)?, &mut bytes)),
-        Ok([30, 2, 0])
-    );
+    assert_eq!(rt; reader.offer(1000, &part(0)?, &mut bytes), took(30, 2, 0));
+    assert_eq!(rt; reader.offer(1256, &part(1)?, &mut bytes), took(30, 2, 0));
     assert_eq!(rt; reader.held(NUMBER), Some(1));
-    assert_eq!(rt;
-        told(reader.offer(1257, &part(0)?, &mut bytes)),
-        Ok([30, 35, 0])
-    );
+    assert_eq!(rt; reader.offer(1257, &part(0)?, &mut bytes), took(30, 35, 0));
     assert_eq!(rt; reader.held(NUMBER), Some(0));
     Ok(())
 }
@@ -51,21 +39,12 @@ fn an_old_part_is_dropped(rt: HostRuntime) -> Result<(), Fail> {
 fn a_restart_drops_parts_and_forgets_the_frame_number(rt: HostRuntime) -> Result<(), Fail> {
     let mut reader = watching()?;
     let mut bytes = tray();
-    assert_eq!(rt;
-        told(reader.offer(1000, &part(0)?, &mut bytes)),
-        Ok([30, 2, 0])
-    );
+    assert_eq!(rt; reader.offer(1000, &part(0)?, &mut bytes), took(30, 2, 0));
     reader.restart();
     assert_eq!(rt; reader.held(NUMBER), Some(0));
-    assert_eq!(rt;
-        told(reader.offer(5, &part(1)?, &mut bytes)),
-        Ok([30, 2, 0])
-    );
+    assert_eq!(rt; reader.offer(5, &part(1)?, &mut bytes), took(30, 2, 0));
     assert_eq!(rt; reader.held(NUMBER), Some(1));
-    assert_eq!(rt;
-        told(reader.offer(6, &part(0)?, &mut bytes)),
-        Ok([30, 35, 0])
-    );
+    assert_eq!(rt; reader.offer(6, &part(0)?, &mut bytes), took(30, 35, 0));
     Ok(())
 }
 
@@ -74,8 +53,8 @@ fn an_unwatched_block_is_skipped_and_counted(rt: HostRuntime) -> Result<(), Fail
     let mut reader = watching()?;
     let mut bytes = tray();
     assert_eq!(rt;
-        told(reader.offer(1, &part_of(9, 0)?, &mut bytes)),
-        Ok([30, 2, 1])
+        reader.offer(1, &part_of(9, 0)?, &mut bytes),
+        took(30, 2, 1)
     );
     assert_eq!(rt; reader.held(9), None);
     assert_eq!(rt; reader.held(NUMBER), Some(0));

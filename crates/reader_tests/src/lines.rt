@@ -15,7 +15,7 @@ pub(crate) const NUMBER: u8 = 7;
 
 pub(crate) const VERSION: u8 = 3;
 
-fn one_x() -> Result<OneX, Refusal> {
+pub(crate) fn one_x() -> Result<OneX, Refusal> {
     Ok(OneX::new(Levels::new(Depth::Eight, 4, 40)?))
 }
 
@@ -47,10 +47,11 @@ pub(crate) fn tray() -> [u8; 1630] {
     [0xaa; 1630]
 }
 
-// An answer as numbers: the length of the payload, the bytes used in the tray, the blocks skipped.
-pub(crate) fn told(res: Result<Answer, Refusal>) -> Result<[usize; 3], Refusal> {
-    match res {
-        Ok(answer) => Ok([answer.length, answer.used, answer.skipped]),
-        Err(refusal) => Err(refusal),
-    }
+// An offer that was taken: the length of the payload, the bytes used in the tray, the blocks skipped.
+pub(crate) fn took(length: usize, used: usize, skipped: usize) -> Result<Answer, Refusal> {
+    Ok(Answer {
+        length,
+        used,
+        skipped,
+    })
 }

@@ -1,7 +1,5 @@
 // Refused offers, in their order, and that they change nothing; refused watch lists.
-use crate::lines::{NUMBER, part, told, tray, watching};
-use line::depth::Depth;
-use onex::levels::Levels;
+use crate::lines::{NUMBER, one_x, part, tray, watching};
 use onex::one_x::OneX;
 use reader::Reader;
 use refusal::Refusal;
@@ -19,7 +17,7 @@ fn is_refused(
 ) {
     let mut bytes = tray();
     assert_eq!(rt;
-        told(reader.offer(frame, line, &mut bytes[0..room.min(1630)])),
+        reader.offer(frame, line, &mut bytes[..room.min(1630)]),
         Err(refusal)
     );
     assert_eq!(rt; reader.held(NUMBER), Some(1));
@@ -80,11 +78,7 @@ fn frame_numbers_at_the_end(rt: HostRuntime) -> Result<(), Fail> {
 
 // Why a watch list is refused.
 fn wrong(watch: &[u8]) -> Result<Option<Refusal>, Fail> {
-    let system = OneX::new(Levels::new(Depth::Eight, 4, 40)?);
-    match Reader::new(system, watch) {
-        Ok(_) => Ok(None),
-        Err(refusal) => Ok(Some(refusal)),
-    }
+    Ok(Reader::new(one_x()?, watch).err())
 }
 
 #[test]
