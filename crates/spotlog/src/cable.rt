@@ -1,7 +1,7 @@
 // A bad cable box: what it does to the frames of the tape on their way to the reader.
 use crate::setting::DEPTH;
 use std::alloc::{AllocError, Global};
-use std::io;
+use std::fmt;
 
 // What happens to a frame.
 #[derive(Clone, Copy)]
@@ -105,20 +105,21 @@ pub fn pass(heap: Global, line: &[u16], fate: Fate) -> Result<Vec<u16>, AllocErr
     Ok(out)
 }
 
-pub fn print_fate(rt: &HostRuntime, frame: u64, fate: Fate) -> io::Result<()> {
-    let word = match fate {
-        Fate::Kept => "kept",
-        Fate::Lost => "lost",
-        Fate::Repeated => "repeated",
-        Fate::Late => "late",
-        Fate::Blanked => "blanked",
-        Fate::Brighter(e) => return println!(rt; "box      frame {frame}  brighter by {e}"),
-        Fate::Dropout(symbol, count) => {
-            return println!(rt; "box      frame {frame}  dropout of {count} symbols from {symbol}");
+impl fmt::Display for Fate {
+    fn fmt<W: fmt::Write>(&self, f: &mut fmt::Formatter<W>) -> fmt::Result {
+        match self {
+            Fate::Kept => f.write_str("kept"),
+            Fate::Lost => f.write_str("lost"),
+            Fate::Repeated => f.write_str("repeated"),
+            Fate::Late => f.write_str("late"),
+            Fate::Blanked => f.write_str("blanked"),
+            Fate::Brighter(e) => write!(f, "brighter by {e}"),
+            Fate::Dropout(symbol, count) => {
+                write!(f, "dropout of {count} symbols from {symbol}")
+            }
+            Fate::Short => f.write_str("short of a sample"),
+            Fate::Glitch => f.write_str("a sample too large"),
+            Fate::Restart => f.write_str("before it comes"),
         }
-        Fate::Short => "short of a sample",
-        Fate::Glitch => "a sample too large",
-        Fate::Restart => return println!(rt; "restart  frame {frame}  before it comes"),
-    };
-    println!(rt; "box      frame {frame}  {word}")
+    }
 }

@@ -1,79 +1,72 @@
 // Marking the tape: each frame is filled with its groups, sealed, and drawn as a line.
-use crate::messages::{Messages, Piece};
-use crate::plan::SHOTS;
-use crate::print::print_refused;
-use crate::setting::{COUNT, FIRST_FRAME};
-use crate::sighted::print_blocks;
-use anyhow::anyhow;
+use crate::log::Log;
+use crate::plan::{ONE_X, SHOTS_IN_ONE_X, SHOTS_IN_TWO_X, Shot, TWO_X};
+use crate::setting::FIRST_FRAME;
+use anyhow::Error;
 use frame::{Wanted, mark_frame};
+use sending::Sending;
+use showing::COLUMNS;
 use std::io;
 use system::system::LineSystem;
 
-// The i-th block of a group, or, where it has none, one that is not put.
-fn wanted<'a>(messages: &'a Messages, group: &[(Piece, u8)], i: usize) -> Wanted<'a> {
-    let (piece, block) = match group.get(i) {
-        Some(want) => *want,
-        None => (Piece::Title, 0),
-    };
-    Wanted {
-        sending: messages.sending(piece),
-        block,
-    }
-}
-
-// Marks one frame with its groups, and fills its line.
-fn mark<L: LineSystem>(
-    rt: &HostRuntime,
-    system: &L,
-    number: u64,
+// Marks one frame with two groups, the first so many blocks and the others, and fills its line.
+fn mark(
+    log: Log,
+    system: &impl LineSystem,
     size: usize,
-    groups: &[&[&Wanted<'_>]],
+    blocks: &[&Wanted],
+    first: usize,
     line: &mut [u16],
 ) -> io::Result<()> {
     let mut refused = [None; 2];
-    let sealed = match mark_frame(size, groups, &mut refused) {
+    let (group, then) = blocks.split_at(first.min(blocks.len()));
+    let sealed = match mark_frame(size, &[group, then], &mut refused) {
         Ok(sealed) => sealed,
-        Err(refusal) => return print_refused(rt, number, "frame", refusal),
+        Err(refusal) => return log.refused("frame", refusal),
     };
-    print_blocks(rt, "marked", number, sealed.payload())?;
-    if let Some(refusal) = refused[0] {
-        print_refused(rt, number, "group 0", refusal)?;
-    }
-    if let Some(refusal) = refused[1] {
-        print_refused(rt, number, "group 1", refusal)?;
+    log.blocks("marked", sealed.payload())?;
+    for (what, refusal) in ["group 0", "group 1"].iter().zip(refused) {
+        if let Some(refusal) = refusal {
+            log.refused(what, refusal)?;
+        }
     }
     match sealed.draw(system, line) {
-        Ok(()) => println!(rt; "drawn    frame {number}  payload {size}"),
-        Err(refusal) => print_refused(rt, number, "drawing", refusal),
+        Ok(()) => log.say("drawn", format_args!("payload {size}")),
+        Err(refusal) => log.refused("drawing", refusal),
     }
 }
 
+// The line of a frame as it is planned.
+fn shoot(log: Log, system: &impl LineSystem, size: usize, shot: Shot) -> anyhow::Result<Vec<u16>> {
+    let heap = log.rt.alloc();
+    let Shot(first, then) = shot;
+    let mut wants = first.to_vec(heap)?;
+    wants.extend_from_slice(then)?;
+    let sendings: Vec<Sending> = wants
+        .iter()
+        .map(|(piece, _)| piece.sending().map_err(Error::from))
+        .try_collect(heap)?;
+    let blocks: Vec<Wanted> = wants
+        .iter()
+        .zip(&sendings)
+        .map(|((_, block), sending)| Wanted {
+            sending,
+            block: *block,
+        })
+        .collect(heap)?;
+    let blocks: Vec<&Wanted> = blocks.iter().collect(heap)?;
+    let mut line = vec![in heap; 0u16; COLUMNS]?;
+    mark(log, system, size, &blocks, first.len(), &mut line)?;
+    Ok(line)
+}
+
 // The lines of the tape, frame by frame.
-pub fn film<L: LineSystem>(rt: &HostRuntime, system: &L) -> anyhow::Result<Vec<Vec<u16>>> {
-    let messages = match Messages::new() {
-        Ok(messages) => messages,
-        Err(_) => return Err(anyhow!("a message is refused")),
-    };
+pub fn film(rt: &HostRuntime, system: &impl LineSystem) -> anyhow::Result<Vec<Vec<u16>>> {
     let mut lines = Vec::new(rt.alloc());
-    let mut number = FIRST_FRAME;
-    for shot in SHOTS.iter() {
-        let first = wanted(&messages, shot.first, 0);
-        let second = wanted(&messages, shot.first, 1);
-        let third = wanted(&messages, shot.then, 0);
-        let all = [&first, &second, &third];
-        let end = shot.first.len().min(2);
-        let last = 2 + shot.then.len().min(1);
-        let mut line = vec![in rt.alloc(); 0u16; COUNT]?;
-        mark(
-            rt,
-            system,
-            number,
-            shot.size,
-            &[&all[0..end], &all[2..last]],
-            &mut line,
-        )?;
-        lines.push(line)?;
-        number = number.saturating_add(1);
+    let in_one_x = SHOTS_IN_ONE_X.iter().map(|shot| (ONE_X, shot));
+    let in_two_x = SHOTS_IN_TWO_X.iter().map(|shot| (TWO_X, shot));
+    for (frame, (size, shot)) in (FIRST_FRAME..).zip(in_one_x.chain(in_two_x)) {
+        lines.push(shoot(Log { rt, frame }, system, size, *shot)?)?;
     }
     Ok(lines)
 }

@@ -1,19 +1,19 @@
 // Reading the tape back: what the cable box lets through is offered to a reader, and what came of it is printed.
-use crate::cable::{Fate, STEPS, pass, print_fate};
-use crate::handed::print_tray;
-use crate::print::print_refused;
+use crate::cable::{Fate, STEPS, pass};
+use crate::handed::{content_of, print_entry};
+use crate::log::Log;
 use crate::setting::FIRST_FRAME;
-use crate::sighted::print_blocks;
-use crate::spots::Spot;
+use crate::spots::Spots;
 use reader::Answer;
 use replay::{Call, Outcome};
+use showing::PAYLOAD_LENGTH;
 use std::alloc::{AllocError, Global};
 use std::io;
 use system::system::LineSystem;
-use tray::TRAY_LEAST;
+use tray::Tray;
 
 // The line of each step.
-pub fn arrivals(heap: Global, film: &Vec<Vec<u16>>) -> Result<Vec<Vec<u16>>, AllocError> {
+pub fn arrivals(heap: Global, film: &[Vec<u16>]) -> Result<Vec<Vec<u16>>, AllocError> {
     let mut lines = Vec::new(heap);
     for (frame, fate) in STEPS {
         let line = match film.get(frame.saturating_sub(FIRST_FRAME) as usize) {
@@ -28,7 +28,7 @@ pub fn arrivals(heap: Global, film: &Vec<Vec<u16>>) -> Result<Vec<Vec<u16>>, All
 // The calls on the reader: an offer for each frame that comes, and the restart.
 pub fn calls<'a>(
     heap: Global,
-    lines: &'a Vec<Vec<u16>>,
+    lines: &'a [Vec<u16>],
     tray: &'a [u8],
 ) -> Result<Vec<Call<'a>>, AllocError> {
     let mut calls = Vec::new(heap);
@@ -47,66 +47,82 @@ pub fn calls<'a>(
 }
 
 // Prints what was sighted in a taken line, and how it was answered.
-fn print_taken<L: LineSystem>(
-    rt: &HostRuntime,
-    system: &L,
-    frame: u64,
-    line: &[u16],
-    answer: Answer,
-) -> io::Result<()> {
-    let mut payload = [0u8; 60];
-    if let Ok(Some(n)) = system.read(line, &mut payload) {
-        if n <= 60 {
-            print_blocks(rt, "sighted", frame, &payload[0..n])?;
-        }
+fn print_taken(log: Log, system: &impl LineSystem, line: &[u16], answer: Answer) -> io::Result<()> {
+    let mut payload = [0; PAYLOAD_LENGTH];
+    if let Ok(Some(length)) = system.read(line, &mut payload) {
+        log.blocks("sighted", &payload[..length.min(PAYLOAD_LENGTH)])?;
     }
-    let length = answer.length;
-    let used = answer.used;
-    let skipped = answer.skipped;
-    println!(rt; "taken    frame {frame}  payload {length:>2} used {used:>3} skipped {skipped}")
+    let Answer {
+        length,
+        used,
+        skipped,
+    } = answer;
+    log.say(
+        "taken",
+        format_args!("payload {length:>2} used {used:>3} skipped {skipped}"),
+    )
+}
+
+// Prints the entries of a tray, and notes the spots.
+fn print_tray<'a>(log: Log, tray: &'a [u8], spots: &mut Spots<'a>) -> io::Result<()> {
+    match Tray::open(tray) {
+        Ok(tray) => {
+            for entry in tray.entries() {
+                print_entry(log, entry)?;
+                if let Some(content) = content_of(entry) {
+                    spots.note(log.frame, content)?;
+                }
+            }
+            Ok(())
+        }
+        Err(refusal) => log.refused("tray", refusal),
+    }
 }
 
 // Prints what came of one offer.
-fn print_outcome<L: LineSystem>(
-    rt: &HostRuntime,
-    system: &L,
-    frame: u64,
+fn print_outcome<'a>(
+    log: Log,
+    system: &impl LineSystem,
     line: &[u16],
-    outcome: &Outcome,
-    spots: &mut Vec<Spot>,
+    outcome: &'a Outcome,
+    spots: &mut Spots<'a>,
 ) -> io::Result<()> {
     match outcome {
         Outcome::Restarted => Ok(()),
         Outcome::Offered {
             result: Err(refusal),
             tray: _,
-        } => print_refused(rt, frame, "offer", *refusal),
+        } => log.refused("offer", *refusal),
         Outcome::Offered {
             result: Ok(answer),
             tray,
         } => {
-            print_taken(rt, system, frame, line, *answer)?;
-            print_tray(rt, frame, tray, answer.used, spots)
+            print_taken(log, system, line, *answer)?;
+            print_tray(log, &tray[..answer.used.min(tray.len())], spots)
         }
     }
 }
 
 // Prints step by step what the box did and what came of it, and notes the spots.
-pub fn report<L: LineSystem>(
+pub fn report<'a>(
     rt: &HostRuntime,
-    system: &L,
-    lines: &Vec<Vec<u16>>,
-    outcomes: &Vec<Outcome>,
-) -> io::Result<Vec<Spot>> {
-    let mut spots = Vec::new(rt.alloc());
-    let mut next = outcomes.iter();
+    system: &impl LineSystem,
+    lines: &[Vec<u16>],
+    outcomes: &'a [Outcome],
+) -> io::Result<Spots<'a>> {
+    let mut spots = Spots::new(rt.alloc());
+    let mut outcomes = outcomes.iter();
     for ((frame, fate), line) in STEPS.iter().zip(lines) {
-        print_fate(rt, *frame, *fate)?;
+        let log = Log { rt, frame: *frame };
+        match fate {
+            Fate::Restart => log.say("restart", fate)?,
+            _ => log.say("box", fate)?,
+        }
         if let Fate::Lost = fate {
             continue;
         }
-        if let Some(outcome) = next.next() {
-            print_outcome(rt, system, *frame, line, outcome, &mut spots)?;
+        if let Some(outcome) = outcomes.next() {
+            print_outcome(log, system, line, outcome, &mut spots)?;
         }
     }
     Ok(spots)

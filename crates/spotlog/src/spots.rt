@@ -1,52 +1,50 @@
 // The spots of a tape, dated: which content stood there, from which frame to which.
-use crate::handed::print_identifier;
 use body::Content;
+use showing::Identifier;
 use std::alloc::{AllocError, Global};
-use std::io;
+use std::fmt;
 
-#[derive(Drop)]
-pub struct Spot {
-    id_type: u8,
-    id: Vec<u8>,
+#[derive(Clone, Copy)]
+pub struct Spot<'a> {
+    identifier: Identifier<'a>,
     first: u64,
     last: u64,
 }
 
-impl Spot {
-    fn is_of(&self, content: Content) -> bool {
-        self.id_type == content.id_type && self.id.as_slice() == content.id
+impl fmt::Display for Spot<'_> {
+    fn fmt<W: fmt::Write>(&self, f: &mut fmt::Formatter<W>) -> fmt::Result {
+        write!(
+            f,
+            "frames {} to {}  {}",
+            self.first, self.last, self.identifier
+        )
     }
 }
 
-// Notes a content that was handed over in a frame: the latest spot goes on, or a new one begins.
-pub fn note(
-    spots: &mut Vec<Spot>,
-    heap: Global,
-    frame: u64,
-    content: Content,
-) -> Result<(), AllocError> {
-    if let Some(spot) = spots.last_mut() {
-        if spot.is_of(content) {
-            spot.last = frame;
-            return Ok(());
+// The spots so far, in order.
+#[derive(Drop)]
+pub struct Spots<'a> {
+    pub list: Vec<Spot<'a>>,
+}
+
+impl<'a> Spots<'a> {
+    pub fn new(heap: Global) -> Spots<'a> {
+        Spots {
+            list: Vec::new(heap),
         }
     }
-    let id = content.id.to_vec(heap)?;
-    spots.push(Spot {
-        id_type: content.id_type,
-        id,
-        first: frame,
-        last: frame,
-    })?;
-    Ok(())
-}
 
-pub fn print_spots(rt: &HostRuntime, spots: &Vec<Spot>) -> io::Result<()> {
-    for spot in spots {
-        let first = spot.first;
-        let last = spot.last;
-        print!(rt; "spot     frames {first} to {last}  ")?;
-        print_identifier(rt, spot.id_type, &spot.id)?;
+    // Notes a content that was handed over in a frame: the latest spot goes on, or a new one begins.
+    pub fn note(&mut self, frame: u64, content: Content<'a>) -> Result<(), AllocError> {
+        let identifier = Identifier::from(content);
+        match self.list.last_mut() {
+            Some(spot) if spot.identifier == identifier => spot.last = frame,
+            _ => self.list.push(Spot {
+                identifier,
+                first: frame,
+                last: frame,
+            })?,
+        }
+        Ok(())
     }
-    Ok(())
 }
