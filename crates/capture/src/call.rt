@@ -7,23 +7,6 @@ ghost use Rattle.capture.specs.Numbers.{in_numbers};
 
 use crate::answer::LineReading;
 use crate::reading::read;
-use refusal::Refusal;
-
-// An answer as the numbers that C is told.
-fn told(answer: Result<Option<usize>, Refusal>) -> LineReading
-    ensures { result ≡ in_numbers answer }
-{
-    let (refusal, place, length) = match answer {
-        Ok(Some(found)) => (0, 0, found as u64),
-        Ok(None) => (0, 0, 0),
-        Err(refusal) => (refusal.number() as u32, refusal.place(), 0),
-    };
-    LineReading {
-        refusal,
-        place,
-        length,
-    }
-}
 
 // Reads one line by 1X, else 2X, off samples of two bytes each, low byte first.
 pub fn rueladle_read_line(depth: u32, samples: &[u8], payload: &mut [u8]) -> LineReading
@@ -31,5 +14,5 @@ pub fn rueladle_read_line(depth: u32, samples: &[u8], payload: &mut [u8]) -> Lin
     ensures payload { payload.new ≡ buffer_after (depth_of depth) samples.now payload.old }
     ensures carried { (p : List ℕ) → Carry depth samples.now p → 60 ≤ length payload.old → (result ≡ in_numbers (Ok (Some (length p)))) × (payload.new ≡ put (Some p) payload.old) }
 {
-    told(read(depth, samples, payload))
+    LineReading::from(read(depth, samples, payload))
 }

@@ -15,10 +15,7 @@ use refusal::Refusal;
 fn cuts(depth: Depth, line: &[u16]) -> Option<Cuts>
     ensures { found_by result (level_at line.now) ≡ one_two_found depth line.now }
 {
-    match onex::measure::cuts(depth, line) {
-        Some(cuts) => Some(cuts),
-        None => twox::cuts::cuts(depth, line),
-    }
+    onex::measure::cuts(depth, line).or_else(|| twox::cuts::cuts(depth, line))
 }
 
 // Reads samples.
@@ -38,9 +35,10 @@ fn read_bytes(depth: Depth, bytes: &[u8], payload: &mut [u8]) -> Result<Option<u
     if bytes.len() % 2 != 0 || count > MOST_SAMPLES {
         return Err(Refusal::SampleCount(count));
     }
-    let mut line = [0u16; MOST_SAMPLES];
-    gather(bytes, &mut line);
-    read_samples(depth, &line[0..count], payload)
+    let mut samples = [0u16; MOST_SAMPLES];
+    let line = &mut samples[..count];
+    gather(bytes, line);
+    read_samples(depth, line, payload)
 }
 
 // Reads bytes at a stated depth, which is tested before all else.

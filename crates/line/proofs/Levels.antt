@@ -1,16 +1,27 @@
 -- How far the level of a symbol lies from what was drawn, by its weight and a deviation, and what it is read as.
 use Rattle.std.proofs.Common.{◌≡◌, ℕ, zero, suc, ◌+◌, ◌*◌, ◌<◌, ◌≤◌, true, cond, leb, List, [], ◌∷◌, length, get_or, take, drop, None, sum, sym, ap, ◌∙◌, subst, suc-mul, zero-add, zero-mul, arith}
-use Rattle.std.proofs.lemmas.List.Sums.{sum_by-cons}
+use Rattle.std.proofs.lemmas.List.Sums.{sum_by-cons, sum_by-le}
+use Rattle.std.proofs.lemmas.List.Elements.{All-take, All-drop}
+use Rattle.std.specs.List.{All}
 use Rattle.std.proofs.lemmas.Bool.{le-leb, lt-leb}
-use Rattle.std.proofs.lemmas.Nat.{div-mul-add}
-use Rattle.std.proofs.lemmas.List.{length-drop, length-take-le, get_or-take, get_or-drop}
+use Rattle.std.proofs.lemmas.Nat.{div-mul-add, mul-le}
+use Rattle.std.proofs.lemmas.List.{length-drop, length-take, length-take-le, get_or-take, get_or-drop}
 use Rattle.std.proofs.lemmas.List.FromFn.{get_or-map-range_with_len, length-map-range_with_len}
 use Rattle.line.specs.declared.depth.Depth.{Depth}
 use Rattle.line.specs.Depths.{unit_of}
 use Rattle.line.specs.Lines.{good_count, line_fault}
 use Rattle.line.specs.Symbols.{value_of, Within, Near, weight, level_at, symbol_of, symbol_at, drawn_by}
 use Rattle.line.proofs.Legal.{line_legal, legal_count}
-use Rattle.line.proofs.Sizes.{inside}
+use Rattle.line.proofs.Sizes.{inside, weight_small}
+
+-- the level of a symbol of 16-bit samples
+pub level_small : (line : List ℕ) (k : ℕ) → All (λ x. x ≤ 65535) line → level_at line k ≤ 40 * 65535
+unfolding level_at
+level_small line k all =
+    let w = weight (length line) in
+    let part = take w (drop (k * w) line) in
+    let short : length part ≤ 40 = omega (arith, length-take w (drop (k * w) line), weight_small (length line)) in
+    omega (arith, sum_by-le (λ x. x) 65535 part (All-take (λ x. x ≤ 65535) w _ (All-drop (λ x. x ≤ 65535) (k * w) line all)), mul-le (length part) 65535 40 65535 short (omega arith))
 
 -- the value is u where the first u cuts are reached and no other
 pub value_is : (cuts : List ℕ) (twice u : ℕ) → u ≤ length cuts →

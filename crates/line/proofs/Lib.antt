@@ -1,3 +1,4 @@
+pub mod Chunks
 pub mod Sizes
 pub mod Gathers
 pub mod Legal

@@ -1,9 +1,7 @@
 -- Where symbols lie in a line.
-use Rattle.std.proofs.Common.{◌≡◌, ℕ, ◌+◌, ◌*◌, ◌/◌, ◌%◌, ◌^◌, ◌<◌, ◌≤◌, true, false, ◌&&◌, eqb, leb, List, [], ◌∷◌, ◌++◌, map, length, take, drop, set, sum, sym, refl, ap, ◌∙◌, subst, inl, inr, append_assoc, le_refl, add-mul, mul-zero, mul-add, add-one, arith, pow_mono, pow-add}
+use Rattle.std.proofs.Common.{◌≡◌, ℕ, ◌+◌, ◌*◌, ◌/◌, ◌%◌, ◌^◌, ◌<◌, ◌≤◌, true, false, ◌&&◌, eqb, leb, List, length, take, drop, sum, sym, refl, ap, ◌∙◌, subst, inl, inr, le_refl, add-mul, mul-zero, mul-add, add-one, arith, pow_mono, pow-add}
 use lib.Seq.{take-nil}
-use Rattle.std.specs.List.{range_with_len}
-use Rattle.std.proofs.lemmas.List.{drop_more, drop_all, set_at}
-use Rattle.std.proofs.lemmas.List.FromFn.{length-map-range_with_len, map-range_with_len_more}
+use Rattle.std.proofs.lemmas.List.{drop_all}
 use Rattle.line.specs.Lines.{good_count}
 use Rattle.line.specs.Symbols.{Alphabet, gathered, weight, level_at, symbol_at}
 use Rattle.std.proofs.lemmas.Nat.{mul-le, div_below}
@@ -17,8 +15,8 @@ by_bits P one two b low high =
       | inr ne ↦ (let e : 2 ≡ b = omega arith in subst P e two)
     ]
 
-pub byte_place : (b : ℕ) → 1 ≤ b → b ≤ 2 → (k : ℕ) → k < 240 → k / (8 / b) < 240 / (8 / b)
-byte_place = by_bits (λ b. (k : ℕ) → k < 240 → k / (8 / b) < 240 / (8 / b)) (λ k h. omega arith) (λ k h. omega arith)
+pub byte_place : (b : ℕ) → 1 ≤ b → b ≤ 2 → (k : ℕ) → k < 240 → k / (8 / b) < 30 * b
+byte_place = by_bits (λ b. (k : ℕ) → k < 240 → k / (8 / b) < 30 * b) (λ k h. omega arith) (λ k h. omega arith)
 
 pub shift_fits : (b : ℕ) → 1 ≤ b → b ≤ 2 → (k : ℕ) → b * (k % (8 / b) + 1) ≤ 8
 shift_fits = by_bits (λ b. (k : ℕ) → b * (k % (8 / b) + 1) ≤ 8) (λ k. omega arith) (λ k. omega arith)
@@ -41,6 +39,12 @@ value_more a v b n h k =
 pub byte_room : (b n : ℕ) → 1 ≤ b → b ≤ 2 → n < 8 / b → 2 ^ (b * n + b) ≤ 256
 byte_room b n low high h = pow_mono (bits_fit b low high n h)
 
+bits_below : (b : ℕ) → 1 ≤ b → b ≤ 2 → (n : ℕ) → n ≤ 8 / b → b * n ≤ 8
+bits_below = by_bits (λ b. (n : ℕ) → n ≤ 8 / b → b * n ≤ 8) (λ n h. omega arith) (λ n h. omega arith)
+
+pub byte_full : (b n : ℕ) → 1 ≤ b → b ≤ 2 → n ≤ 8 / b → 2 ^ (b * n) ≤ 256
+byte_full b n low high h = pow_mono (bits_below b low high n h)
+
 -- a line has 240 n samples
 pub count_parts : (count : ℕ) → good_count count ≡ true → (count % 240 ≡ 0) × (240 ≤ count) × (count ≤ 3840)
 unfolding good_count
@@ -60,6 +64,13 @@ weight_bad count bad = cond-false (good_count count) (count / 240) 0 bad
 
 pub weight_pos : (count : ℕ) → good_count count ≡ true → 0 < weight count
 weight_pos count ok = let parts : (count % 240 ≡ 0) × (240 ≤ count) × (count ≤ 3840) = count_parts count ok in omega (arith, weight_good count ok)
+
+pub weight_small : (count : ℕ) → weight count ≤ 40
+weight_small count =
+    elim (cases_Bool (good_count count)) [
+      | inl ok ↦ (let parts : (count % 240 ≡ 0) × (240 ≤ count) × (count ≤ 3840) = count_parts count ok in omega (arith, weight_good count ok))
+      | inr bad ↦ omega (arith, weight_bad count bad)
+    ]
 
 -- a line is its 240 symbols
 pub weight_whole : (count : ℕ) → good_count count ≡ true → 240 * weight count ≡ count
@@ -94,15 +105,6 @@ symbol_none line k out =
 pub symbol_below : (count i : ℕ) → good_count count ≡ true → i < count → symbol_at count i < 240
 unfolding symbol_at
 symbol_below count i ok h = div_below i (weight count) 240 (weight_pos count ok) (omega (arith, weight_whole count ok))
-
--- one place more of a front that is made by a function
-pub front_more : {X : Type 0} (f : ℕ → X) (xs ys : List X) (j : ℕ) (v d : X) → j < length ys → xs ≡ map f (range_with_len 0 j) ++ drop j ys → v ≡ f j →
-    set xs j v ≡ map f (range_with_len 0 (j + 1)) ++ drop (j + 1) ys
-front_more f xs ys j v d h e is =
-    ap (λ l. set l j v) e ∙ ap (λ l. set (map f (range_with_len 0 j) ++ l) j v) (drop_more ys j d h)
-    ∙ set_at (map f (range_with_len 0 j)) _ (drop (j + 1) ys) v j (length-map-range_with_len f 0 j)
-    ∙ ap (λ u. map f (range_with_len 0 j) ++ u ∷ drop (j + 1) ys) is
-    ∙ sym (ap (λ l. l ++ drop (j + 1) ys) (map-range_with_len_more f 0 j j (omega arith)) ∙ append_assoc (map f (range_with_len 0 j)) (f j ∷ []) (drop (j + 1) ys))
 
 pub gathered_next : (base : ℕ) (f : ℕ → ℕ) (t : ℕ) → gathered base f (t + 1) ≡ gathered base f t * base + f t
 gathered_next base f t = ap (gathered base f) (add-one t)

@@ -35,28 +35,19 @@ pub(crate) fn begins(payload: &[u8]) -> bool
     }
 }
 
-// The largest sample, or 0. The loop has no early way out, so that it is compiled to vector code.
+// The largest sample, or 0. It has no early way out, so that it is compiled to vector code.
 fn largest_sample(line: &[u16]) -> u16
     ensures { result ≡ fold (λ m x. max m x) 0 line.now }
 {
-    let mut most: u16 = 0;
-    for s in line {
-        most = most.max(*s);
-    }
-    most
+    line.iter().fold(0, |most, sample| most.max(*sample))
 }
 
-// The place of the first sample that is too large, or the length.
+// How many samples from the first on are small enough for the depth.
 fn fitting(depth: Depth, line: &[u16]) -> usize
     ensures { result ≡ fitting depth line.now }
 {
     let limit = SAMPLE_LIMIT * depth.unit();
-    for (i, s) in line.iter().enumerate() {
-        if *s >= limit {
-            return i;
-        }
-    }
-    line.len()
+    line.iter().take_while(|sample| **sample < limit).count()
 }
 
 // Why a line is refused, if it is.
@@ -70,22 +61,16 @@ pub fn line_fault(depth: Depth, line: &[u16]) -> Option<Refusal>
         return None;
     }
     let place = fitting(depth, line);
-    if place < line.len() {
-        Some(Refusal::SampleSize(place))
-    } else {
-        None
-    }
+    (place < line.len()).then_some(Refusal::SampleSize(place))
 }
 
 // Whether a line can be read into a buffer of so many bytes.
 pub(crate) fn read_test(depth: Depth, line: &[u16], room: usize) -> Result<(), Refusal>
     ensures answer { result ≡ read_test (line_fault depth line.now) room }
 {
-    if let Some(fault) = line_fault(depth, line) {
-        return Err(fault);
+    match line_fault(depth, line) {
+        Some(fault) => Err(fault),
+        None if room < PAYLOAD_ROOM => Err(Refusal::OutputLength(room)),
+        None => Ok(()),
     }
-    if room < PAYLOAD_ROOM {
-        return Err(Refusal::OutputLength(room));
-    }
-    Ok(())
 }

@@ -1,5 +1,5 @@
 // Drawing a payload into a line, with a level for each value of a symbol.
-ghost use Rattle.std.specs.Prelude.{◌≡◌, ◌*◌, ◌/◌, ◌<◌, true, length};
+ghost use Rattle.std.specs.Prelude.{◌≡◌, ◌*◌, ◌^◌, ◌<◌, ◌≤◌, true, length};
 ghost use Rattle.line.specs.Lines.{good_count, draw_answer, draw_line};
 ghost use Rattle.line.specs.Symbols.{Alphabet, symbol_of, drawn_by};
 ghost use Rattle.line.specs.Scales.{palette_levels, palette_bits, draws_bits};
@@ -9,17 +9,41 @@ use crate::symbols::weight;
 use refusal::Refusal;
 
 // The level of each value of a symbol: two values are one bit, four are two.
-#[derive(Clone, Copy)]
+#[derive(Clone, Copy, PartialEq, Eq, Debug)]
 pub enum Palette {
     Two([u16; 2]),
     Four([u16; 4]),
+}
+
+impl Palette {
+    // The level of each value, from 0 on.
+    fn levels(&self) -> &[u16]
+        ensures list { result.now ≡ palette_levels self.now }
+        ensures size { length result.now ≡ 2 ^ palette_bits self.now }
+    {
+        match self {
+            Palette::Two(levels) => levels,
+            Palette::Four(levels) => levels,
+        }
+    }
+
+    // How many bits a symbol has.
+    fn bits(&self) -> usize
+        ensures answer { result ≡ palette_bits self.now }
+        ensures few { (1 ≤ result) × (result ≤ 2) }
+    {
+        match self {
+            Palette::Two(_) => 1,
+            Palette::Four(_) => 2,
+        }
+    }
 }
 
 // Symbol k of a payload.
 fn symbol_of(payload: &[u8], bits: usize, base: usize, k: usize) -> usize
     requires letters { Alphabet bits base }
     requires place { k < 240 }
-    requires whole { length payload.now ≡ 240 / (8 / bits) }
+    requires whole { length payload.now ≡ 30 * bits }
     ensures { (result ≡ symbol_of bits payload.now k) × (result < base) }
 {
     let per = 8 / bits;
@@ -27,15 +51,16 @@ fn symbol_of(payload: &[u8], bits: usize, base: usize, k: usize) -> usize
 }
 
 // Fills a line with the levels of a payload's symbols.
-fn fill(levels: &[u16], bits: usize, payload: &[u8], line: &mut [u16])
-    requires letters { Alphabet bits (length levels.now) }
-    requires whole { length payload.now ≡ 240 / (8 / bits) }
+fn fill(palette: &Palette, payload: &[u8], line: &mut [u16])
+    requires whole { length payload.now ≡ 30 * palette_bits palette.now }
     requires count { good_count (length line.old) ≡ true }
-    ensures { line.new ≡ drawn_by bits levels.now payload.now (length line.old) }
+    ensures { line.new ≡ drawn_by (palette_bits palette.now) (palette_levels palette.now) payload.now (length line.old) }
 {
-    let n = weight(line.len()) as usize;
-    for i in 0..line.len() {
-        line[i] = levels[symbol_of(payload, bits, levels.len(), i / n)];
+    let levels = palette.levels();
+    let bits = palette.bits();
+    let width = weight(line.len()) as usize;
+    for (i, sample) in line.iter_mut().enumerate() {
+        *sample = levels[symbol_of(payload, bits, levels.len(), i / width)];
     }
 }
 
@@ -47,13 +72,9 @@ pub fn draw(palette: Palette, payload: &[u8], line: &mut [u16]) -> Result<(), Re
     if !good_count(line.len()) {
         return Err(Refusal::SampleCount(line.len()));
     }
-    let (levels, bits): (&[u16], usize) = match &palette {
-        Palette::Two(levels) => (levels, 1),
-        Palette::Four(levels) => (levels, 2),
-    };
-    if payload.len() != 30 * bits || !begins(payload) {
+    if payload.len() != 30 * palette.bits() || !begins(payload) {
         return Err(Refusal::Payload);
     }
-    fill(levels, bits, payload, line);
+    fill(&palette, payload, line);
     Ok(())
 }

@@ -1,65 +1,87 @@
 // Reading the bytes of a payload off a line, by cuts.
-ghost use Rattle.std.specs.Prelude.{◌≡◌, ℕ, ◌+◌, ◌*◌, ◌/◌, ◌^◌, ◌<◌, ◌≤◌, ◌++◌, length, drop};
-ghost use Rattle.line.specs.Lines.{size_of, put, line_fault, read_answer, read_buffer};
-ghost use Rattle.line.specs.Symbols.{Alphabet, level_at, value_of, gathered, payload_of};
+ghost use Rattle.std.specs.Prelude.{◌≡◌, ℕ, ◌+◌, ◌*◌, ◌/◌, ◌^◌, ◌<◌, ◌≤◌, ◌++◌, length, drop, take, sum, true};
+ghost use Rattle.line.specs.Lines.{good_count, size_of, put, line_fault, read_answer, read_buffer};
+ghost use Rattle.line.specs.Symbols.{level_at, value_of, gathered, payload_of};
 ghost use Rattle.line.specs.Scales.{payload_by, gathered_into, found_by};
 
 use crate::checks::{PAYLOAD_ROOM, read_test};
 use crate::depth::Depth;
-use crate::symbols::{symbol, value};
+use crate::symbols::{total, value, weight};
 use refusal::Refusal;
+use std::slice::from_ref;
 
 // The cuts between the values of a symbol: one between two values, three between four. A symbol is read as the number of
 // cuts that its doubled level reaches.
-#[derive(Clone, Copy)]
+#[derive(Clone, Copy, PartialEq, Eq, Debug)]
 pub enum Cuts {
     One(u32),
     Three([u32; 3]),
 }
 
-// The byte that the values of its symbols write, at `bits` bits to a symbol.
-fn byte(line: &[u16], cuts: &[u32], bits: usize, j: usize) -> u8
-    requires letters { Alphabet bits (length cuts.now + 1) }
-    requires place { j < 240 / (8 / bits) }
-    ensures { result ≡ gathered (2 ^ bits) (λ t. value_of cuts.now (2 * level_at line.now (j * (8 / bits) + t))) (8 / bits) }
-{
-    let base = cuts.len() as u32 + 1;
-    let mut all: u32 = 0;
-    for t in 0..8 / bits {
-        let (level, _) = symbol(line, (j * (8 / bits) + t) as u8);
-        all = all * base + value(2 * level, cuts) as u32;
-    }
-    all as u8
+// Cuts as a list, with the number of bits of a symbol that is read by them.
+#[derive(Clone, Copy)]
+struct Scale<'a> {
+    cuts: &'a [u32],
+    bits: usize,
+    ghost values: { (1 ≤ bits) × (bits ≤ 2) × (length cuts.now + 1 ≡ 2 ^ bits) },
 }
 
-// Writes the payload that the values of the symbols write to the front of the buffer.
-fn gather_at(line: &[u16], cuts: &[u32], bits: usize, payload: &mut [u8])
-    requires letters { Alphabet bits (length cuts.now + 1) }
-    requires room { 240 / (8 / bits) ≤ length payload.old }
-    ensures { payload.new ≡ payload_of bits (λ k. value_of cuts.now (2 * level_at line.now k)) ++ drop (240 / (8 / bits)) payload.old }
-{
-    for j in 0..240 / (8 / bits) {
-        payload[j] = byte(line, cuts, bits, j);
+impl<'a> Scale<'a> {
+    // The byte that the values of its symbols write, at so many samples to a symbol.
+    fn byte(&self, samples: &[u16], width: usize) -> u8
+        requires width { (1 ≤ width) × (width ≤ 40) }
+        requires whole { length samples.now ≡ 8 / self.now.bits * width }
+        ensures { result ≡ gathered (2 ^ self.now.bits) (λ t. value_of self.now.cuts.now (2 * sum (take width (drop (t * width) samples.now)))) (8 / self.now.bits) }
+    {
+        let base = self.cuts.len() as u32 + 1;
+        let mut all: u32 = 0;
+        for symbol in samples.chunks_exact(width) {
+            all = all * base + value(2 * total(symbol), self.cuts) as u32;
+        }
+        all as u8
+    }
+
+    // Fills the payload with what the values of a line's symbols write.
+    fn fill(&self, line: &[u16], payload: &mut [u8])
+        requires count { good_count (length line.now) ≡ true }
+        requires whole { length payload.old ≡ 30 * self.now.bits }
+        ensures { payload.new ≡ payload_of self.now.bits (λ k. value_of self.now.cuts.now (2 * level_at line.now k)) }
+    {
+        let width = weight(line.len()) as usize;
+        let size = 8 / self.bits * width;
+        for (j, to) in payload.iter_mut().enumerate() {
+            *to = self.byte(&line[j * size..(j + 1) * size], width);
+        }
+    }
+
+    // Writes the payload that a line is read as to the front of the buffer, and answers its length.
+    fn gather(&self, line: &[u16], payload: &mut [u8]) -> usize
+        requires count { good_count (length line.now) ≡ true }
+        requires room { 60 ≤ length payload.old }
+        ensures length { result ≡ 30 * self.now.bits }
+        ensures payload { payload.new ≡ payload_of self.now.bits (λ k. value_of self.now.cuts.now (2 * level_at line.now k)) ++ drop (30 * self.now.bits) payload.old }
+    {
+        let size = 30 * self.bits;
+        self.fill(line, &mut payload[..size]);
+        size
     }
 }
 
 // Writes the payload that the cuts read to the front of the buffer, and answers its length; a buffer under 60 bytes stays.
-fn gather(line: &[u16], cuts: Cuts, payload: &mut [u8]) -> Option<usize>
-    ensures answer { result ≡ size_of (gathered_into (length payload.old) (payload_by cuts (level_at line.now))) }
-    ensures payload { payload.new ≡ put (gathered_into (length payload.old) (payload_by cuts (level_at line.now))) payload.old }
+fn gather(line: &[u16], cuts: &Cuts, payload: &mut [u8]) -> Option<usize>
+    requires count { good_count (length line.now) ≡ true }
+    ensures answer { result ≡ size_of (gathered_into (length payload.old) (payload_by cuts.now (level_at line.now))) }
+    ensures payload { payload.new ≡ put (gathered_into (length payload.old) (payload_by cuts.now (level_at line.now))) payload.old }
 {
     if payload.len() < PAYLOAD_ROOM {
         return None;
     }
     match cuts {
         Cuts::One(cut) => {
-            gather_at(line, &[cut], 1, payload);
-            Some(30)
+            let cuts = from_ref(cut);
+            Some(Scale { cuts, bits: 1 }.gather(line, payload))
         }
-        Cuts::Three(cuts) => {
-            gather_at(line, &cuts, 2, payload);
-            Some(60)
-        }
+        Cuts::Three(cuts) => Some(Scale { cuts, bits: 2 }.gather(line, payload)),
     }
 }
 
@@ -75,7 +97,7 @@ pub fn read_by(
 {
     read_test(depth, line, payload.len())?;
     match cuts {
-        Some(cuts) => Ok(gather(line, cuts, payload)),
+        Some(cuts) => Ok(gather(line, &cuts, payload)),
         None => Ok(None),
     }
 }

@@ -1,5 +1,5 @@
 // Each refusal at its edge.
-use crate::systems::payload;
+use crate::drawn::payload;
 use line::depth::Depth;
 use onex::levels::Levels;
 use onex::one_x::OneX;
@@ -12,21 +12,20 @@ use twox::one_two::one_else_two;
 use twox::two_x::TwoX;
 
 // What reading a black line of so many samples answers.
-fn black(count: usize) -> Result<Result<Option<usize>, Refusal>, Fail> {
+fn black(count: usize) -> Result<Option<usize>, Refusal> {
     let system = one_else_two(Depth::Eight);
     let line = [0u16; 4080];
     let mut found = [0u8; 60];
-    let n = if count < 4080 { count } else { 4080 };
-    Ok(system.read(&line[0..n], &mut found))
+    system.read(&line[..count.min(4080)], &mut found)
 }
 
 #[test]
 fn sample_counts(rt: HostRuntime) -> Result<(), Fail> {
     for count in [0usize, 1, 239, 241, 1280, 3839, 3841, 4080] {
-        assert_eq!(rt; black(count)?, Err(Refusal::SampleCount(count)));
+        assert_eq!(rt; black(count), Err(Refusal::SampleCount(count)));
     }
-    assert_eq!(rt; black(240)?, Ok(None));
-    assert_eq!(rt; black(3840)?, Ok(None));
+    assert_eq!(rt; black(240), Ok(None));
+    assert_eq!(rt; black(3840), Ok(None));
     Ok(())
 }
 
@@ -53,9 +52,15 @@ fn largest_sample(rt: &impl Abort, depth: Depth, most: u16) -> Result<(), Fail> 
 
 #[test]
 fn sample_sizes_and_room(rt: HostRuntime) -> Result<(), Fail> {
-    largest_sample(&rt, Depth::Eight, 255)?;
-    largest_sample(&rt, Depth::Ten, 1023)?;
-    largest_sample(&rt, Depth::Twelve, 4095)
+    let largest: [(Depth, u16); 3] = [
+        (Depth::Eight, 255),
+        (Depth::Ten, 1023),
+        (Depth::Twelve, 4095),
+    ];
+    for (depth, most) in largest {
+        largest_sample(&rt, depth, most)?;
+    }
+    Ok(())
 }
 
 #[test]
@@ -76,9 +81,7 @@ fn payloads_that_are_not_drawn(rt: HostRuntime) -> Result<(), Fail> {
         system.draw(&bytes[0..30], &mut line),
         Err(Refusal::Payload)
     );
-    for s in line {
-        assert_eq!(rt; s, 7);
-    }
+    assert_eq!(rt; line, [7u16; 240]);
     Ok(())
 }
 
@@ -97,8 +100,8 @@ fn levels_and_depths(rt: HostRuntime) -> Result<(), Fail> {
             && !allowed(16, 31)
             && !allowed(4, 101)
     );
-    assert_eq!(rt; Depth::from_bits(10), Ok(Depth::Ten));
-    assert_eq!(rt; Depth::from_bits(9), Err(Refusal::Depth));
+    assert_eq!(rt; Depth::try_from(10u8), Ok(Depth::Ten));
+    assert_eq!(rt; Depth::try_from(9u8), Err(Refusal::Depth));
     let one = OneX::new(Levels::new(Depth::Eight, 4, 20)?);
     assert!(rt; first_else(one, TwoX::new(Depth::Ten)).is_err());
     Ok(())

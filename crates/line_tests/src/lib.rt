@@ -2,10 +2,10 @@
 
 // Tests of lines and line systems on worked values, apart from the crates that they test, so that those are proved once.
 #[cfg(test)]
+mod drawn;
+#[cfg(test)]
 mod edges;
 #[cfg(test)]
 mod sums;
-#[cfg(test)]
-mod systems;
 #[cfg(test)]
 mod trips;

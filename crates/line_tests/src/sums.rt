@@ -1,5 +1,5 @@
 // The sums at which a symbol changes its value: 8 bits, 8 samples to a symbol.
-use crate::systems::payload;
+use crate::drawn::payload;
 use line::depth::Depth;
 use std::process::Abort;
 use std::test::Fail;
@@ -8,9 +8,7 @@ use twox::one_two::one_else_two;
 
 // Gives the last symbol of a line this sum.
 fn set_last(line: &mut [u16; 1920], sum: u16) {
-    for i in 1912..1920usize {
-        line[i] = sum / 8;
-    }
+    line[1912..].fill(sum / 8);
     line[1919] = sum / 8 + sum % 8;
 }
 
@@ -18,17 +16,14 @@ fn set_last(line: &mut [u16; 1920], sum: u16) {
 fn last_byte(rt: &impl Abort, length: usize, sum: u16) -> Result<u8, Fail> {
     let system = one_else_two(Depth::Eight);
     let bytes = payload();
-    let n = if length < 60 { length } else { 60 };
     let mut line = [0u16; 1920];
-    system.draw(&bytes[0..n], &mut line)?;
+    system.draw(&bytes[..length.min(60)], &mut line)?;
     set_last(&mut line, sum);
     let mut found = [0u8; 60];
     let read = system.read(&line, &mut found)?.ok_or("no run-in")?;
     assert_eq!(rt; read, length);
-    match found.get(length.saturating_sub(1)) {
-        Some(byte) => Ok(*byte),
-        None => Err(Fail::new("a payload of more than 60 bytes")),
-    }
+    let byte = found.get(length.saturating_sub(1));
+    Ok(*byte.ok_or("a payload of more than 60 bytes")?)
 }
 
 #[test]

@@ -6,7 +6,7 @@ ghost use Rattle.onex.specs.Pairs.{allowed};
 use line::depth::Depth;
 
 // A depth with the levels for 0 and for 1. Every pair that exists is allowed at its depth.
-#[derive(Clone, Copy)]
+#[derive(Clone, Copy, PartialEq, Eq, Debug)]
 pub struct Levels {
     pub(crate) depth: Depth,
     pub(crate) zero: u16,

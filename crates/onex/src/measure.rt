@@ -1,52 +1,60 @@
 // The measurement of the run-in.
-ghost use Rattle.std.specs.Prelude.{◌≡◌, ◌*◌, ◌≤◌, min, max, length, if◌then◌else◌, nat_eq};
+ghost use Rattle.std.specs.Prelude.{◌≡◌, ◌*◌, ◌≤◌, length};
 ghost use Rattle.line.specs.Depths.{unit_of};
 ghost use Rattle.line.specs.Symbols.{weight, level_at};
-ghost use Rattle.onex.specs.OneX.{measured, one_cuts};
+ghost use Rattle.onex.specs.OneX.{largest, smallest, measured, one_cuts};
 
 use line::depth::Depth;
 use line::reading::Cuts;
-use line::symbols::{symbol, weight};
+use line::symbols::{level, weight};
 
-// The bits of EB 52, in order of place.
-const RUN_IN_BITS: [u8; 16] = [1, 1, 1, 0, 1, 0, 1, 1, 0, 1, 0, 1, 0, 0, 1, 0];
+// The places of the zeros of EB 52, and of its ones.
+const ZEROS: [u8; 7] = [3, 5, 8, 10, 12, 13, 15];
+
+const ONES: [u8; 9] = [0, 1, 2, 4, 6, 7, 9, 11, 14];
 
 // The least distance between the levels of a run-in that is found, in half units of a symbol's weight.
 const LEAST_GAP: u32 = 16;
 
-// The levels measured so far, the largest at a zero and the smallest at a one, and one symbol more.
-fn with_symbol(measured: (u32, u32), bit: u8, level: u32) -> (u32, u32)
-    ensures { result ≡ (if nat_eq bit 0 then (max measured.0 level, measured.1) else (measured.0, min measured.1 level)) }
+// The largest level at some places, and the smallest there and at place 0.
+fn largest(line: &[u16], places: &[u8]) -> u32
+    ensures { result ≡ largest (level_at line.now) 0 places.now }
 {
-    let (zero, one) = measured;
-    if bit == 0 {
-        (zero.max(level), one)
-    } else {
-        (zero, one.min(level))
-    }
+    places.iter().fold(0, |most, k| most.max(level(line, *k)))
 }
 
-// The largest level at the zeros of the run-in, and the smallest at its ones: its symbols in order of place.
-fn measure(line: &[u16]) -> (u32, u32)
-    ensures { (result ≡ measured (level_at line.now)) × (result.0 ≤ 40 * 65535) × (result.1 ≤ 40 * 65535) }
+fn smallest(line: &[u16], places: &[u8]) -> u32
+    ensures { result ≡ smallest (level_at line.now) (level_at line.now 0) places.now }
 {
-    let (first, _) = symbol(line, 0);
-    let mut measured = (0, first);
-    for (k, bit) in RUN_IN_BITS.iter().enumerate() {
-        let (level, _) = symbol(line, k as u8);
-        measured = with_symbol(measured, *bit, level);
+    let first = level(line, 0);
+    places
+        .iter()
+        .fold(first, |least, k| least.min(level(line, *k)))
+}
+
+// What is measured on a run-in: the largest level at its zeros, and the smallest at its ones.
+struct Measured {
+    zero: u32,
+    one: u32,
+    ghost small: { (zero ≤ 40 * 65535) × (one ≤ 40 * 65535) },
+}
+
+impl Measured {
+    fn of(line: &[u16]) -> Measured
+        ensures { (result.zero, result.one) ≡ measured (level_at line.now) }
+    {
+        Measured {
+            zero: largest(line, &ZEROS),
+            one: smallest(line, &ONES),
+        }
     }
-    measured
 }
 
 // The cut between 0 and 1, where the run-in is found.
 pub fn cuts(depth: Depth, line: &[u16]) -> Option<Cuts>
     ensures answer { result ≡ one_cuts (unit_of depth) (weight (length line.now)) (level_at line.now) }
 {
-    let (zero, one) = measure(line);
-    if weight(line.len()) * (LEAST_GAP * depth.unit() as u32) < 2 * one.saturating_sub(zero) {
-        Some(Cuts::One(zero + one))
-    } else {
-        None
-    }
+    let Measured { zero, one } = Measured::of(line);
+    let least = weight(line.len()) * (LEAST_GAP * depth.unit() as u32);
+    (least < 2 * one.saturating_sub(zero)).then_some(Cuts::One(zero + one))
 }

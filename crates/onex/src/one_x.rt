@@ -16,7 +16,7 @@ use refusal::Refusal;
 use system::system::LineSystem;
 
 // 1X at the depth of a pair of levels, which it draws with. What it reads doesn't depend on the pair.
-#[derive(Clone, Copy)]
+#[derive(Clone, Copy, PartialEq, Eq, Debug)]
 pub struct OneX {
     pub(crate) levels: Levels,
 }

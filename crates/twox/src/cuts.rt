@@ -7,17 +7,10 @@ ghost use Rattle.twox.specs.TwoX.{cuts_of, runs_as, two_run, two_cuts};
 
 use line::depth::Depth;
 use line::reading::Cuts;
-use line::symbols::{symbol, value, weight};
-
-// The levels of the values 0 to 3, a row for each depth.
-const LEVELS: [[u16; 4]; 3] = [
-    [16, 89, 162, 235],
-    [64, 356, 648, 940],
-    [256, 1424, 2592, 3760],
-];
+use line::symbols::{level, value, weight};
 
 // The values of EB 52.
-const RUN_IN_VALUES: [u8; 8] = [3, 2, 2, 3, 1, 1, 0, 2];
+const RUN_IN_VALUES: [usize; 8] = [3, 2, 2, 3, 1, 1, 0, 2];
 
 // The levels of the values 0 to 3: the first is 16 units, and each next one lies 73 units higher.
 pub fn levels(depth: Depth) -> [u16; 4]
@@ -25,9 +18,9 @@ pub fn levels(depth: Depth) -> [u16; 4]
     ensures even { (v : ℕ) → v < 4 → slice_index result v ≡ (16 + 73 * v) * unit_of depth }
 {
     match depth {
-        Depth::Eight => LEVELS[0],
-        Depth::Ten => LEVELS[1],
-        Depth::Twelve => LEVELS[2],
+        Depth::Eight => [16, 89, 162, 235],
+        Depth::Ten => [64, 356, 648, 940],
+        Depth::Twelve => [256, 1424, 2592, 3760],
     }
 }
 
@@ -48,13 +41,10 @@ fn cuts_between(depth: Depth, count: usize) -> [u32; 3]
 fn run_in(line: &[u16], cuts: &[u32; 3]) -> bool
     ensures { result ≡ runs_as (λ k. value_of cuts.now (2 * level_at line.now k)) 0 two_run }
 {
-    for (k, v) in RUN_IN_VALUES.iter().enumerate() {
-        let (level, _) = symbol(line, k as u8);
-        if value(2 * level, cuts) != *v as usize {
-            return false;
-        }
-    }
-    true
+    RUN_IN_VALUES
+        .iter()
+        .enumerate()
+        .all(|(k, v)| value(2 * level(line, k as u8), cuts) == *v)
 }
 
 // The cuts between the four values, where the run-in is found.
@@ -62,9 +52,5 @@ pub fn cuts(depth: Depth, line: &[u16]) -> Option<Cuts>
     ensures answer { result ≡ two_cuts (two_levels depth) (weight (length line.now)) (level_at line.now) }
 {
     let cuts = cuts_between(depth, line.len());
-    if run_in(line, &cuts) {
-        Some(Cuts::Three(cuts))
-    } else {
-        None
-    }
+    run_in(line, &cuts).then_some(Cuts::Three(cuts))
 }

@@ -16,7 +16,7 @@ use refusal::Refusal;
 use system::system::LineSystem;
 
 // 2X at a depth.
-#[derive(Clone, Copy)]
+#[derive(Clone, Copy, PartialEq, Eq, Debug)]
 pub struct TwoX {
     pub(crate) depth: Depth,
 }

@@ -11,7 +11,7 @@ returns c =
     let bits = c.args.depth in
     let bytes = c.args.samples.now in
     let old = c.args.payload.now in
-    let answer : c.told.result ≡ in_numbers (bytes_answer (depth_of bits) bytes (length old)) = c.told.ensures ∙ ap in_numbers c.read.ensures.answer in
+    let answer : c.from.result ≡ in_numbers (bytes_answer (depth_of bits) bytes (length old)) = c.from.ensures ∙ ap in_numbers c.read.ensures.answer in
     let left : c.read.new.payload ≡ read_buffer (bytes_answer (depth_of bits) bytes (length old)) (bytes_found (depth_of bits) bytes) old =
     c.read.ensures.payload ∙ ap (λ r. read_buffer r (bytes_found (depth_of bits) bytes) old) c.read.ensures.answer in
     record {

@@ -1,17 +1,13 @@
-use Rattle.std.proofs.Common.{◌≡◌, ℕ, ◌*◌, sym, ap, ◌∙◌, arith}
+use Rattle.std.proofs.Common.{rules, tests, ◌≡◌, ◌≢◌, ℕ, ◌*◌}
+use Rattle.std.proofs.lemmas.Iterator.{cases_from_all, YieldsList-from_slice}
+use Rattle.std.proofs.lemmas.Iterator.Consumers.{YieldsList-from_enumerate}
 use Rattle.line.specs.Symbols.{value_of, level_at}
 use Rattle.twox.specs.TwoX.{two_run}
-use Rattle.twox.specs.Runs.{run_passes, run_misses}
+use Rattle.twox.proofs.RunIn.{runs_decided}
 use Rattle.twox.proofs.cuts.run_in.Goals as goal
 
-pub returns-then-value-v : goal.returns-then-value-v
-returns-then-value-v c =
+pub returns : goal.returns
+returns c =
     let f : ℕ → ℕ = λ k. value_of c.args.cuts.now (2 * level_at c.args.line.now k) in
-    let v : c.value.result ≡ f c.loop-k.k = c.value.ensures.answer ∙ ap (λ s. value_of c.args.cuts.now (2 * s)) c.symbol-level.ensures.level in
-    sym (c.loop-k.invariant.1 ∙ run_misses f two_run c.loop-k.k c.loop-k-test.true (λ e. c.if-value-v.true (v ∙ e)))
-
-pub loop-k-preserved : goal.loop-k-preserved
-loop-k-preserved c =
-    let f : ℕ → ℕ = λ k. value_of c.args.cuts.now (2 * level_at c.args.line.now k) in
-    let v : c.value.result ≡ f c.loop-k.k = c.value.ensures.answer ∙ ap (λ s. value_of c.args.cuts.now (2 * s)) c.symbol-level.ensures.level in
-    (omega arith, c.loop-k.invariant.1 ∙ run_passes f two_run c.loop-k.k c.loop-k-test.true (sym v ∙ c.if-value-v.false))
+    runs_decided f two_run c.all.result
+    (cases_from_all _ _ _ (λ p. f p.0 ≡ p.1) (λ p. f p.0 ≢ p.1) c.all.ensures.ran (YieldsList-from_enumerate (YieldsList-from_slice two_run cc) cc) (λ x q k. search (rules, tests)) (λ x q k. search (rules, tests)))
