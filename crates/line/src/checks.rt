@@ -50,7 +50,7 @@ fn fitting(depth: Depth, line: &[u16]) -> usize
     line.iter().take_while(|sample| **sample < limit).count()
 }
 
-// Why a line is refused, if it is.
+// Why a line is refused, if it is: an Option, since what line systems promise is said of the fault alone.
 pub fn line_fault(depth: Depth, line: &[u16]) -> Option<Refusal>
     ensures answer { result ≡ line_fault depth line.now }
 {

@@ -49,6 +49,7 @@ impl<'a> Scale<'a> {
     {
         let width = weight(line.len()) as usize;
         let size = 8 / self.bits * width;
+        // by place: of what a `zip` with `iter_mut` writes, a proof knows nothing
         for (j, to) in payload.iter_mut().enumerate() {
             *to = self.byte(&line[j * size..(j + 1) * size], width);
         }
@@ -76,6 +77,7 @@ fn gather(line: &[u16], cuts: &Cuts, payload: &mut [u8]) -> Option<usize>
     if payload.len() < PAYLOAD_ROOM {
         return None;
     }
+    // a call for each kind, so that each is compiled for its number of cuts: one call reads 1.1 to 1.7 times slower
     match cuts {
         Cuts::One(cut) => {
             let cuts = from_ref(cut);

@@ -20,6 +20,7 @@ pub struct FirstElse<A: LineSystem, B: LineSystem> {
     ghost apart: { (line p : List ℕ) → B.LineSystem.carries second line p → A.LineSystem.found first line ≡ None },
 }
 
+// By hand, since no derive takes a ghost field beside type parameters.
 impl<A: LineSystem + Copy, B: LineSystem + Copy> Clone for FirstElse<A, B> {
     ghost is_clone = { λ x y. y ≡ x };
 
