@@ -1,17 +1,22 @@
 // Cases of blocks: the CRC, cutting, the wire form, the walk.
-use crate::text::{entries, push_entry, push_row};
+use crate::case::Case;
+use crate::text::{OrDash, Shown, entries};
 use crc::crc32;
+use itertools::Itertools;
 use sending::{Block, Room, Sending};
-use std::alloc::{AllocError, Global};
+use std::alloc::Global;
+use std::fmt;
 use walk::{Entry, Walk};
 use wire::write_block;
-use words::{Hex, Stop, Words, read_parts};
+use words::{Hex, Stop, Words};
 
-pub fn crc(heap: Global, mut words: Words) -> Result<String, Stop> {
-    let bytes = words.hex(heap)?;
-    words.end()?;
-    let sum = crc32(&bytes);
-    Ok(format!(in heap; "crc {sum:08X}")?)
+// The most bytes of a block as it is written.
+const BLOCK_MOST: usize = 60;
+
+pub fn crc(mut case: Case) -> Result<String, Stop> {
+    let bytes = case.hex()?;
+    case.words.end()?;
+    Ok(format!(in case.heap; "crc {:08X}", crc32(&bytes))?)
 }
 
 fn read_room(words: &mut Words) -> Result<Room, Stop> {
@@ -22,24 +27,18 @@ fn read_room(words: &mut Words) -> Result<Room, Stop> {
     }
 }
 
-pub fn cut(heap: Global, mut words: Words) -> Result<String, Stop> {
-    let room = read_room(&mut words)?;
-    let number = words.byte()?;
-    let version = words.byte()?;
-    let message = words.hex(heap)?;
-    words.end()?;
+pub fn cut(mut case: Case) -> Result<String, Stop> {
+    let room = read_room(&mut case.words)?;
+    let number = case.words.number()?;
+    let version = case.words.number()?;
+    let message = case.hex()?;
+    case.words.end()?;
     let sending = Sending::cut(number, version, &message, room)?;
-    show_parts(heap, &sending)
-}
-
-fn show_parts(heap: Global, sending: &Sending) -> Result<String, Stop> {
-    let mut text = String::from_str(heap, "parts ")?;
-    for i in 0..sending.parts() {
-        if let Some(part) = sending.part(i) {
-            push_row(heap, &mut text, i == 0, part)?;
-        }
-    }
-    Ok(text)
+    let parts = (0..sending.parts())
+        .filter_map(|i| sending.part(i))
+        .map(Hex)
+        .join(case.heap, ",")?;
+    Ok(format!(in case.heap; "parts {parts}")?)
 }
 
 // The sending of given parts.
@@ -47,71 +46,75 @@ pub fn sending_of(
     heap: Global,
     number: u8,
     version: u8,
-    parts: &Vec<Vec<u8>>,
+    parts: &[Vec<u8>],
 ) -> Result<Sending, Stop> {
-    let mut rows = Vec::new(heap);
-    for part in parts.iter() {
-        rows.push(part.as_slice())?;
-    }
+    let rows: Vec<&[u8]> = parts.iter().map(Vec::as_slice).collect(heap)?;
     Ok(Sending::of_parts(number, version, &rows)?)
 }
 
-pub fn parts(heap: Global, mut words: Words) -> Result<String, Stop> {
-    let number = words.byte()?;
-    let version = words.byte()?;
-    let parts = read_parts(heap, words.word()?)?;
-    words.end()?;
+// A block of a sending as it is written.
+fn written(heap: Global, sending: &Sending, i: u8) -> Result<Vec<u8>, Stop> {
+    let mut block = vec![in heap; 0; BLOCK_MOST]?;
+    let end = write_block(sending, i, &mut block, 0)?;
+    block.truncate(end);
+    Ok(block)
+}
+
+pub fn parts(mut case: Case) -> Result<String, Stop> {
+    let number = case.words.number()?;
+    let version = case.words.number()?;
+    let parts = case.parts()?;
+    case.words.end()?;
+    let heap = case.heap;
     let sending = sending_of(heap, number, version, &parts)?;
-    show_blocks(heap, &sending)
+    let blocks: Vec<Vec<u8>> = (0..4)
+        .take(sending.parts())
+        .map(|i| written(heap, &sending, i))
+        .try_collect(heap)?;
+    let blocks = blocks.iter().map(|block| Hex(block)).join(heap, ",")?;
+    Ok(format!(in heap; "blocks {blocks}")?)
 }
 
-fn show_blocks(heap: Global, sending: &Sending) -> Result<String, Stop> {
-    let mut text = String::from_str(heap, "blocks ")?;
-    for i in 0..4u8 {
-        if usize::from(i) < sending.parts() {
-            let mut block = [0; 60];
-            let end = write_block(sending, i, &mut block, 0)?;
-            push_row(heap, &mut text, i == 0, &block[0..end.min(60)])?;
-        }
-    }
-    Ok(text)
-}
-
-fn show_block(heap: Global, place: usize, block: Block) -> Result<String, AllocError> {
-    let number = block.number;
-    let version = block.version;
-    let part = block.part;
-    let last = block.last;
-    let body = Hex(block.body);
-    match block.check {
-        Some(sum) => format!(in heap;
-            "block:{number}:{version}:{part}:{last}:{body}:{sum:08X}:{place}"
-        ),
-        None => format!(in heap; "block:{number}:{version}:{part}:{last}:{body}:-:{place}"),
-    }
-}
-
-fn show_entry(heap: Global, entry: Entry) -> Result<String, AllocError> {
-    match entry {
-        Entry::Block { place, block } => show_block(heap, place, block),
-        Entry::Fault {
-            place,
-            cause,
-            number,
-        } => {
-            let cause = cause.number();
-            format!(in heap; "fault:{cause}:{number}:{place}")
+impl fmt::Display for Shown<Entry<'_>> {
+    fn fmt<W: fmt::Write>(&self, f: &mut fmt::Formatter<W>) -> fmt::Result {
+        match self.0 {
+            Entry::Block { place, block } => {
+                let Block {
+                    number,
+                    version,
+                    part,
+                    last,
+                    body,
+                    check,
+                } = block;
+                let body = Hex(body);
+                let check = OrDash(check.map(Shown));
+                write!(
+                    f,
+                    "block:{number}:{version}:{part}:{last}:{body}:{check}:{place}"
+                )
+            }
+            Entry::Fault {
+                place,
+                cause,
+                number,
+            } => write!(f, "fault:{}:{number}:{place}", cause.number()),
         }
     }
 }
 
-pub fn walk_over(heap: Global, mut words: Words) -> Result<String, Stop> {
-    let payload = words.hex(heap)?;
-    words.end()?;
-    let mut text = String::new(heap);
-    for entry in Walk::new(&payload) {
-        let shown = show_entry(heap, entry)?;
-        push_entry(&mut text, shown.as_str())?;
+// A message CRC.
+impl fmt::Display for Shown<u32> {
+    fn fmt<W: fmt::Write>(&self, f: &mut fmt::Formatter<W>) -> fmt::Result {
+        write!(f, "{:08X}", self.0)
     }
-    entries(heap, text)
+}
+
+pub fn walk_over(mut case: Case) -> Result<String, Stop> {
+    let payload = case.hex()?;
+    case.words.end()?;
+    entries(
+        case.heap,
+        Walk::new(&payload).map(Shown).join(case.heap, " ")?,
+    )
 }

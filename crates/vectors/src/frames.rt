@@ -1,67 +1,34 @@
 // Cases of frames: opened, filled, sealed, drawn.
-ghost use Rattle.std.specs.Prelude.{◌<◌, length, vec_len};
-
 use crate::blocks::sending_of;
+use crate::case::Case;
 use crate::lines::{Drawing, show_line};
-use crate::systems::System;
 use crate::text::ok;
 use frame::{OpenFrame, SealedFrame, Wanted};
-use refusal::Refusal;
-use sending::{Room, Sending};
+use sending::Sending;
 use std::alloc::Global;
-use system::system::LineSystem;
-use words::{Hex, Pieces, Stop, Words, read_decimal, read_parts};
+use words::{Hex, Stop, Words, read_parts};
 
-// The greatest index that a case states.
-const INDEX_MOST: u64 = 1_000_000;
-
-pub fn open(mut words: Words) -> Result<OpenFrame, Stop> {
-    let length = words.count()?;
-    words.end()?;
+pub fn open(mut case: Case) -> Result<OpenFrame, Stop> {
+    let length = case.words.count()?;
+    case.words.end()?;
     Ok(OpenFrame::open(length)?)
 }
 
 pub fn show_payload(heap: Global, frame: &SealedFrame) -> Result<String, Stop> {
-    let shown = Hex(frame.payload());
-    Ok(format!(in heap; "frame {shown}")?)
+    let payload = Hex(frame.payload());
+    Ok(format!(in heap; "frame {payload}")?)
 }
 
-fn draw_by(frame: &SealedFrame, system: System, line: &mut [u16]) -> Result<(), Refusal> {
-    match system {
-        System::One(system) => frame.draw(&system, line),
-        System::Two(system) => frame.draw(&system, line),
-        System::Both(system) => frame.draw(&system, line),
-    }
-}
-
-pub fn draw(heap: Global, frame: &SealedFrame, mut words: Words) -> Result<String, Stop> {
-    let drawing = Drawing::read(&mut words)?;
-    words.end()?;
+pub fn draw(mut case: Case, frame: &SealedFrame) -> Result<String, Stop> {
+    let drawing = Drawing::read(&mut case.words)?;
+    case.words.end()?;
     let system = drawing.system()?;
-    let mut line = vec![in heap; 0u16; drawing.count]?;
-    draw_by(frame, system, &mut line)?;
-    show_line(heap, &line)
+    let mut line = vec![in case.heap; 0u16; drawing.count]?;
+    frame.draw(&system, &mut line)?;
+    show_line(case.heap, &line)
 }
 
-// The block that a word wants: a sending of given parts, and an index in it. All indices past a byte are past every sending.
-fn read_want(heap: Global, word: &[u8]) -> Result<Want, Stop> {
-    let mut fields = Pieces::new(word, b'/');
-    let number = read_decimal(fields.next().ok_or(Stop::What)?, u8::MAX as u64).ok_or(Stop::What)?;
-    let version = read_decimal(fields.next().ok_or(Stop::What)?, u8::MAX as u64).ok_or(Stop::What)?;
-    let parts = read_parts(heap, fields.next().ok_or(Stop::What)?)?;
-    let index = read_decimal(fields.next().ok_or(Stop::What)?, INDEX_MOST).ok_or(Stop::What)?;
-    if fields.next().is_some() {
-        return Err(Stop::What);
-    }
-    Ok(Want {
-        number: number as u8,
-        version: version as u8,
-        parts,
-        index: index.min(u8::MAX as u64) as u8,
-    })
-}
-
-// A wanted block as it is written, before its sending is made.
+// A wanted block as it is written, before its sending is made: given parts, and an index.
 #[derive(Drop)]
 struct Want {
     number: u8,
@@ -70,68 +37,44 @@ struct Want {
     index: u8,
 }
 
-fn read_wants(heap: Global, words: Words) -> Result<Vec<Want>, Stop> {
-    let mut wants = Vec::new(heap);
-    for word in words.rest() {
-        let want = read_want(heap, word)?;
-        wants.push(want)?;
-    }
-    Ok(wants)
-}
-
-fn sendings_of(heap: Global, wants: &[Want]) -> Result<Vec<Sending>, Stop> {
-    let mut sendings = Vec::new(heap);
-    for want in wants {
-        let sending = sending_of(heap, want.number, want.version, &want.parts)?;
-        sendings.push(sending)?;
-    }
-    // the spare one
-    sendings.push(Sending::cut(1, 0, &[], Room::OneX)?)?;
-    Ok(sendings)
-}
-
-// The i-th block of a group, or where the group has none the spare one.
-fn wanted<'a>(wants: &[Want], sendings: &'a [Sending], i: usize) -> Wanted<'a>
-    requires { length wants.now < length sendings.now }
-{
-    if i < wants.len() {
-        return Wanted {
-            sending: &sendings[i],
-            block: wants[i].index,
-        };
-    }
-    Wanted {
-        sending: &sendings[wants.len()],
-        block: 0,
+impl Want {
+    // All indices past a byte are past every sending.
+    fn read(heap: Global, word: &[u8]) -> Result<Want, Stop> {
+        let mut fields = Words::between(word, b'/');
+        let number = fields.number()?;
+        let version = fields.number()?;
+        let parts = read_parts(heap, fields.word()?)?;
+        let index = fields.count()?.min(u8::MAX as usize) as u8;
+        fields.end()?;
+        Ok(Want {
+            number,
+            version,
+            parts,
+            index,
+        })
     }
 }
 
-// Puts a group of blocks of these sendings, behind which a spare one stands. A frame holds at most eight blocks, so none
-// behind the ninth of a group is ever tried.
-fn put_blocks(frame: &mut OpenFrame, wants: &[Want], sendings: Vec<Sending>) -> Result<(), Refusal>
-    requires { length wants.now < vec_len sendings }
-{
-    let first = wanted(wants, &sendings, 0);
-    let second = wanted(wants, &sendings, 1);
-    let third = wanted(wants, &sendings, 2);
-    let fourth = wanted(wants, &sendings, 3);
-    let fifth = wanted(wants, &sendings, 4);
-    let sixth = wanted(wants, &sendings, 5);
-    let seventh = wanted(wants, &sendings, 6);
-    let eighth = wanted(wants, &sendings, 7);
-    let ninth = wanted(wants, &sendings, 8);
-    let group = [
-        &first, &second, &third, &fourth, &fifth, &sixth, &seventh, &eighth, &ninth,
-    ];
-    let count = wants.len().min(9);
-    frame.put(&group[0..count])
-}
-
-pub fn put(heap: Global, frame: &mut OpenFrame, words: Words) -> Result<String, Stop> {
-    let wants = read_wants(heap, words)?;
-    let sendings = sendings_of(heap, &wants)?;
-    if wants.len() < sendings.len() {
-        put_blocks(frame, &wants, sendings)?;
-    }
+pub fn put(case: Case, frame: &mut OpenFrame) -> Result<String, Stop> {
+    let heap = case.heap;
+    let wants: Vec<Want> = case
+        .words
+        .rest()
+        .map(|word| Want::read(heap, word))
+        .try_collect(heap)?;
+    let sendings: Vec<Sending> = wants
+        .iter()
+        .map(|want| sending_of(heap, want.number, want.version, &want.parts))
+        .try_collect(heap)?;
+    let blocks: Vec<Wanted> = wants
+        .iter()
+        .zip(&sendings)
+        .map(|(want, sending)| Wanted {
+            sending,
+            block: want.index,
+        })
+        .collect(heap)?;
+    let group: Vec<&Wanted> = blocks.iter().collect(heap)?;
+    frame.put(&group)?;
     ok(heap)
 }

@@ -2,8 +2,10 @@
 // proved crates. An independent implementation answers the same cases.
 #![tactic(auto)]
 
+mod any_of;
 mod blocks;
 mod bodies;
+mod case;
 mod frames;
 mod lines;
 mod readers;

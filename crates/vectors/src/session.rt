@@ -1,9 +1,11 @@
 // What cases leave to those behind them, and the answer to each.
-use crate::readers::{AnyReader, Offer};
+use crate::case::Case;
+use crate::systems::System;
 use crate::text::ok;
 use crate::{blocks, bodies, frames, lines, readers, trays};
-use anyhow::anyhow;
+use anyhow::bail;
 use frame::{OpenFrame, SealedFrame};
+use reader::Reader;
 use std::alloc::Global;
 use std::io::Write;
 use words::{Stop, Words};
@@ -12,7 +14,7 @@ use words::{Stop, Words};
 pub struct Session {
     open: Option<OpenFrame>,
     sealed: Option<SealedFrame>,
-    reader: Option<AnyReader>,
+    reader: Option<Reader<System>>,
 }
 
 impl Session {
@@ -29,122 +31,72 @@ impl Session {
         match self.answer(rt.alloc(), line) {
             Ok(text) => println!(rt; "{text}")?,
             Err(Stop::Refused(refusal)) => {
-                let number = refusal.number();
-                let place = refusal.place();
-                println!(rt; "refused {number} {place}")?;
+                println!(rt; "refused {} {}", refusal.number(), refusal.place())?;
             }
             Err(Stop::What) => {
                 print!(rt; "what? ")?;
                 rt.stdout().write_all(line)?;
                 println!(rt; "")?;
             }
-            Err(Stop::Memory) => return Err(anyhow!("no memory is left")),
+            Err(Stop::Memory) => bail!("no memory is left"),
         }
         Ok(())
     }
 
     fn answer(&mut self, heap: Global, line: &[u8]) -> Result<String, Stop> {
         let mut words = Words::new(line);
-        match words.word()? {
-            b"crc" => blocks::crc(heap, words),
-            b"levels" => lines::levels(heap, words),
-            b"read" => lines::read(heap, words),
-            b"draw" => lines::draw(heap, words),
-            b"cut" => blocks::cut(heap, words),
-            b"parts" => blocks::parts(heap, words),
-            b"walk" => blocks::walk_over(heap, words),
-            b"tray" => trays::tray(heap, words),
-            b"content" => bodies::content(heap, words),
-            b"c" => lines::read_bytes(heap, words),
-            b"time" => bodies::time(heap, words),
-            b"plain" => bodies::plain(heap, words),
-            b"writetime" => bodies::write_time(heap, words),
-            b"writecontent" => bodies::write_content(heap, words),
-            name => self.later(heap, name, words),
-        }
-    }
-
-    // A case that uses what an earlier one left.
-    fn later(&mut self, heap: Global, name: &[u8], words: Words) -> Result<String, Stop> {
+        let name = words.word()?;
+        let case = Case { heap, words };
         match name {
-            b"open" => self.open_frame(heap, words),
-            b"put" => self.put(heap, words),
-            b"seal" => self.seal(heap, words),
-            b"drawframe" => self.draw_frame(heap, words),
-            b"reader" => self.make_reader(heap, words),
-            b"offer" => self.offer(heap, words),
-            b"restart" => self.restart(heap, words),
-            b"held" => self.held(heap, words),
+            b"crc" => blocks::crc(case),
+            b"levels" => lines::levels(case),
+            b"read" => lines::read(case),
+            b"draw" => lines::draw(case),
+            b"cut" => blocks::cut(case),
+            b"parts" => blocks::parts(case),
+            b"walk" => blocks::walk_over(case),
+            b"tray" => trays::tray(case),
+            b"content" => bodies::content(case),
+            b"c" => lines::read_bytes(case),
+            b"time" => bodies::time(case),
+            b"plain" => bodies::plain(case),
+            b"writetime" => bodies::write_time(case),
+            b"writecontent" => bodies::write_content(case),
+            b"open" => self.open_frame(case),
+            b"put" => frames::put(case, self.open.as_mut().ok_or(Stop::What)?),
+            b"seal" => self.seal(case),
+            b"drawframe" => frames::draw(case, self.sealed.as_ref().ok_or(Stop::What)?),
+            b"reader" => self.make_reader(case),
+            b"offer" => readers::offer(case, self.reader.as_mut().ok_or(Stop::What)?),
+            b"restart" => self.restart(case),
+            b"held" => readers::held(case, self.reader.as_ref().ok_or(Stop::What)?),
             _ => Err(Stop::What),
         }
     }
 
-    fn open_frame(&mut self, heap: Global, words: Words) -> Result<String, Stop> {
-        self.open = Some(frames::open(words)?);
+    fn open_frame(&mut self, case: Case) -> Result<String, Stop> {
+        let heap = case.heap;
+        self.open = Some(frames::open(case)?);
         ok(heap)
     }
 
-    fn put(&mut self, heap: Global, words: Words) -> Result<String, Stop> {
-        match self.open.take() {
-            Some(mut frame) => {
-                let answer = frames::put(heap, &mut frame, words);
-                self.open = Some(frame);
-                answer
-            }
-            None => Err(Stop::What),
-        }
-    }
-
-    fn seal(&mut self, heap: Global, mut words: Words) -> Result<String, Stop> {
-        words.end()?;
-        let frame = match self.open.take() {
-            Some(frame) => frame.seal(),
-            None => return Err(Stop::What),
-        };
-        let text = frames::show_payload(heap, &frame)?;
+    fn seal(&mut self, mut case: Case) -> Result<String, Stop> {
+        case.words.end()?;
+        let frame = self.open.take().ok_or(Stop::What)?.seal();
+        let text = frames::show_payload(case.heap, &frame)?;
         self.sealed = Some(frame);
         Ok(text)
     }
 
-    fn draw_frame(&self, heap: Global, words: Words) -> Result<String, Stop> {
-        match &self.sealed {
-            Some(frame) => frames::draw(heap, frame, words),
-            None => Err(Stop::What),
-        }
-    }
-
-    fn make_reader(&mut self, heap: Global, words: Words) -> Result<String, Stop> {
-        self.reader = Some(readers::make(heap, words)?);
+    fn make_reader(&mut self, case: Case) -> Result<String, Stop> {
+        let heap = case.heap;
+        self.reader = Some(readers::make(case)?);
         ok(heap)
     }
 
-    fn offer(&mut self, heap: Global, words: Words) -> Result<String, Stop> {
-        let offer = Offer::read(heap, words)?;
-        match self.reader.take() {
-            Some(reader) => {
-                let (reader, answer) = readers::offer_line(heap, reader, offer);
-                self.reader = Some(reader);
-                answer
-            }
-            None => Err(Stop::What),
-        }
-    }
-
-    fn restart(&mut self, heap: Global, mut words: Words) -> Result<String, Stop> {
-        words.end()?;
-        match self.reader.take() {
-            Some(reader) => {
-                self.reader = Some(reader.restarted());
-                ok(heap)
-            }
-            None => Err(Stop::What),
-        }
-    }
-
-    fn held(&self, heap: Global, words: Words) -> Result<String, Stop> {
-        match &self.reader {
-            Some(reader) => readers::held(heap, reader, words),
-            None => Err(Stop::What),
-        }
+    fn restart(&mut self, mut case: Case) -> Result<String, Stop> {
+        case.words.end()?;
+        self.reader.as_mut().ok_or(Stop::What)?.restart();
+        ok(case.heap)
     }
 }

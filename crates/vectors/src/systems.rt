@@ -1,80 +1,56 @@
 // The three line systems that cases name.
+use crate::any_of::AnyOf;
 use line::depth::Depth;
 use onex::levels::Levels;
 use onex::one_x::OneX;
 use refusal::Refusal;
-use system::first_else::FirstElse;
 use system::joins::first_else;
-use system::system::LineSystem;
-use twox::one_two::OneTwo;
+use twox::one_two::{OneElseTwo, one_else_two};
 use twox::two_x::TwoX;
 use words::Stop;
 
 // A system's name.
-#[derive(Clone, Copy)]
+#[derive(Clone, Copy, PartialEq, Eq, Debug)]
 pub enum Name {
     OneX,
     TwoX,
     OneElseTwo,
 }
 
-pub fn read_name(word: &[u8]) -> Result<Name, Stop> {
-    match word {
-        b"1x" => Ok(Name::OneX),
-        b"2x" => Ok(Name::TwoX),
-        b"1x-else-2x" => Ok(Name::OneElseTwo),
-        _ => Err(Stop::What),
+impl TryFrom<&[u8]> for Name {
+    type Error = Stop;
+
+    fn try_from(word: &[u8]) -> Result<Name, Stop> {
+        match word {
+            b"1x" => Ok(Name::OneX),
+            b"2x" => Ok(Name::TwoX),
+            b"1x-else-2x" => Ok(Name::OneElseTwo),
+            _ => Err(Stop::What),
+        }
     }
 }
 
-// A depth of so many bits.
-pub fn depth_of_bits(bits: u32) -> Result<Depth, Refusal> {
-    if bits > u8::MAX as u32 {
-        return Err(Refusal::Depth);
-    }
-    Depth::from_bits(bits as u8)
-}
+pub type System = AnyOf<OneX, TwoX, OneElseTwo>;
 
-#[derive(Clone, Copy)]
-pub enum System {
-    One(OneX),
-    Two(TwoX),
-    Both(FirstElse<OneTwo>),
-}
-
-impl System {
-    // The system of a name that draws with these levels. 2X has its own.
-    pub fn new(name: Name, depth: Depth, zero: u16, one: u16) -> Result<System, Refusal> {
-        match name {
-            Name::OneX => Ok(System::One(OneX::new(Levels::new(depth, zero, one)?))),
-            Name::TwoX => Ok(System::Two(TwoX::new(depth))),
+impl Name {
+    // The system that draws with these levels. 2X has its own.
+    pub fn drawing_with(self, depth: Depth, zero: u16, one: u16) -> Result<System, Refusal> {
+        match self {
+            Name::OneX => Ok(AnyOf::One(OneX::new(Levels::new(depth, zero, one)?))),
+            Name::TwoX => Ok(AnyOf::Two(TwoX::new(depth))),
             Name::OneElseTwo => {
                 let first = OneX::new(Levels::new(depth, zero, one)?);
-                Ok(System::Both(first_else(first, TwoX::new(depth))?))
+                Ok(AnyOf::Both(first_else(first, TwoX::new(depth))?))
             }
         }
     }
 
-    // A system to read by, whose levels don't matter.
-    pub fn reading(name: Name, bits: u32) -> Result<System, Refusal> {
-        let depth = depth_of_bits(bits)?;
-        let q = depth.unit();
-        System::new(name, depth, 4 * q, 40 * q)
-    }
-
-    pub fn draw(&self, payload: &[u8], line: &mut [u16]) -> Result<(), Refusal> {
+    // The system to read by, whose levels don't matter.
+    pub fn reading(self, depth: Depth) -> System {
         match self {
-            System::One(system) => system.draw(payload, line),
-            System::Two(system) => system.draw(payload, line),
-            System::Both(system) => system.draw(payload, line),
-        }
-    }
-
-    pub fn read(&self, line: &[u16], payload: &mut [u8]) -> Result<Option<usize>, Refusal> {
-        match self {
-            System::One(system) => system.read(line, payload),
-            System::Two(system) => system.read(line, payload),
-            System::Both(system) => system.read(line, payload),
+            Name::OneX => AnyOf::One(OneX::new(Levels::usual(depth))),
+            Name::TwoX => AnyOf::Two(TwoX::new(depth)),
+            Name::OneElseTwo => AnyOf::Both(one_else_two(depth)),
         }
     }
 }

@@ -1,38 +1,30 @@
 // Answers put together piece by piece.
-use std::alloc::{AllocError, Global};
-use words::{Hex, Stop};
+use std::alloc::Global;
+use std::fmt;
+use words::Stop;
 
-// What every output and tray holds before a call.
-pub const FILLING: u8 = 0xaa;
+// A value as an answer writes it.
+#[derive(Clone, Copy)]
+pub struct Shown<T>(pub T);
+
+// A value, or `-` where there is none.
+#[derive(Clone, Copy)]
+pub struct OrDash<T>(pub Option<T>);
+
+impl<T: fmt::Display> fmt::Display for OrDash<T> {
+    fn fmt<W: fmt::Write>(&self, f: &mut fmt::Formatter<W>) -> fmt::Result {
+        match &self.0 {
+            Some(value) => write!(f, "{value}"),
+            None => f.write_str("-"),
+        }
+    }
+}
 
 pub fn ok(heap: Global) -> Result<String, Stop> {
     Ok(String::from_str(heap, "ok")?)
 }
 
-// One more row of bytes of a list.
-pub fn push_row(
-    heap: Global,
-    text: &mut String,
-    first: bool,
-    bytes: &[u8],
-) -> Result<(), AllocError> {
-    if !first {
-        text.push_str(",")?;
-    }
-    let shown = Hex(bytes);
-    let row = format!(in heap; "{shown}")?;
-    text.push_str(row.as_str())
-}
-
-// One more entry.
-pub fn push_entry(text: &mut String, entry: &str) -> Result<(), AllocError> {
-    if !text.is_empty() {
-        text.push_str(" ")?;
-    }
-    text.push_str(entry)
-}
-
-// The entries, or that there is none.
+// Entries, or that there is none.
 pub fn entries(heap: Global, text: String) -> Result<String, Stop> {
     if text.is_empty() {
         return Ok(String::from_str(heap, "empty")?);

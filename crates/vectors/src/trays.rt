@@ -1,38 +1,40 @@
 // The case of a tray that is read.
-use crate::text::{entries, push_entry};
-use std::alloc::{AllocError, Global};
+use crate::case::Case;
+use crate::text::{Shown, entries};
+use itertools::Itertools;
+use std::fmt;
 use tray::{Entry, Tray};
-use words::{Hex, Stop, Words};
+use words::{Hex, Stop};
 
-fn show_entry(heap: Global, entry: Entry) -> Result<String, AllocError> {
-    match entry {
-        Entry::Message {
-            place,
-            number,
-            version,
-            bytes,
-        } => {
-            let shown = Hex(bytes);
-            format!(in heap; "message:{number}:{version}:{shown}:{place}")
+impl fmt::Display for Shown<Entry<'_>> {
+    fn fmt<W: fmt::Write>(&self, f: &mut fmt::Formatter<W>) -> fmt::Result {
+        match self.0 {
+            Entry::Message {
+                place,
+                number,
+                version,
+                bytes,
+            } => {
+                let bytes = Hex(bytes);
+                write!(f, "message:{number}:{version}:{bytes}:{place}")
+            }
+            Entry::Fault {
+                place,
+                cause,
+                number,
+                at,
+            } => {
+                let layer = cause.layer();
+                let cause = cause.number();
+                write!(f, "fault:{layer}:{cause}:{number}:{at}:{place}")
+            }
         }
-        Entry::Fault {
-            place,
-            layer,
-            cause,
-            number,
-            at,
-        } => format!(in heap; "fault:{layer}:{cause}:{number}:{at}:{place}"),
     }
 }
 
-pub fn tray(heap: Global, mut words: Words) -> Result<String, Stop> {
-    let bytes = words.hex(heap)?;
-    words.end()?;
+pub fn tray(mut case: Case) -> Result<String, Stop> {
+    let bytes = case.hex()?;
+    case.words.end()?;
     let tray = Tray::open(&bytes)?;
-    let mut text = String::new(heap);
-    for entry in tray.entries() {
-        let shown = show_entry(heap, entry)?;
-        push_entry(&mut text, shown.as_str())?;
-    }
-    entries(heap, text)
+    entries(case.heap, tray.entries().map(Shown).join(case.heap, " ")?)
 }

@@ -1,5 +1,9 @@
 -- What digits write.
-use Rattle.std.specs.Prelude.{ℕ, ◌+◌, ◌-◌, ◌*◌, cond, List, [], ◌∷◌, Some, None, Option, nat_lt}
+use Rattle.std.specs.Prelude.{ℕ, ◌+◌, ◌-◌, ◌*◌, cond, List, [], ◌∷◌, Some, None, Option, Ok, Err, Result, nat_lt, ◌≡◌}
+use Rattle.hex.specs.declared.error.FromHexError.{FromHexError}
+use Rattle.hex.specs.declared.error.FromHexError.TheVariants.{InvalidHexCharacter, OddLength, InvalidStringLength, OutOfMemory}
+use Rattle.words.specs.declared.stop.Stop.{Stop}
+use Rattle.words.specs.declared.stop.Stop.TheVariants.{What, Memory}
 
 -- a value with one more decimal digit behind it; none for another character, and above the most
 abbrev pub with_digit : ℕ → ℕ → ℕ → Option ℕ
@@ -21,7 +25,15 @@ abbrev pub number_of : ℕ → List ℕ → Option ℕ
 number_of most [] = None
 number_of most (c ∷ cs) = with_digits most 0 (c ∷ cs)
 
--- the value of a hexadecimal digit, of either case
-abbrev pub hex_digit : ℕ → Option ℕ
-hex_digit c =
-    cond (nat_lt c 48) None (cond (nat_lt c 58) (Some (c - 48)) (cond (nat_lt c 65) None (cond (nat_lt c 71) (Some (c - 55)) (cond (nat_lt c 97) None (cond (nat_lt c 103) (Some (c - 87)) None)))))
+-- why a word that fails to be read as hexadecimal stops its case
+abbrev pub stop_of : FromHexError → Stop
+stop_of (InvalidHexCharacter c i) = What
+stop_of OddLength = What
+stop_of InvalidStringLength = What
+stop_of OutOfMemory = Memory
+
+-- a number that a word writes, as its type has it: by what the conversion may give, and what is read
+abbrev pub NumberRead : {T E : Type 0} → (ℕ → Result T E → Type 0) → Option ℕ → Result T Stop → Type 0
+NumberRead gives None r = r ≡ Err What
+NumberRead gives (Some n) (Ok x) = gives n (Ok x)
+NumberRead {E = E} gives (Some n) (Err e) = (e ≡ What) × ((why : E) × gives n (Err why))

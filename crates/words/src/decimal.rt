@@ -1,21 +1,16 @@
 // Decimal numbers.
-ghost use Rattle.std.specs.Prelude.{◌≡◌, ◌≤◌, IfSome};
-ghost use Rattle.words.specs.Digits.{with_digit, number_of};
+ghost use Rattle.std.specs.Prelude.{◌≡◌, ℕ, ◌-◌, ◌^◌, ◌<◌, ◌≤◌, Ok, IfSome, IfOk};
+ghost use Rattle.words.specs.Digits.{with_digit, number_of, NumberRead};
 
-const BASE: u64 = 10;
+use crate::stop::Stop;
 
 // A value with one more digit behind it, where that is a digit and the value is at most so much.
 fn more(value: u64, c: u8, most: u64) -> Option<u64>
     ensures { result ≡ with_digit most value c }
 {
-    if c < b'0' || c > b'9' {
-        return None;
-    }
-    let digit = u64::from(c - b'0');
-    if digit > most || value > (most - digit) / BASE {
-        return None;
-    }
-    Some(BASE * value + digit)
+    let digit = char::from(c).to_digit(10)?;
+    let more = value.checked_mul(10)?.checked_add(u64::from(digit))?;
+    if more > most { None } else { Some(more) }
 }
 
 // The number that a word of decimal digits writes, where it is at most so much.
@@ -26,9 +21,21 @@ pub fn read_decimal(word: &[u8], most: u64) -> Option<u64>
     if word.is_empty() {
         return None;
     }
+    // digit by digit, since `parse` takes a sign too, which a word may not have
     let mut value = 0;
     for c in word {
         value = more(value, *c, most)?;
     }
     Some(value)
+}
+
+// The number that a word of decimal digits writes, where its type has it.
+pub fn read_number<T: TryFrom<u64>>(word: &[u8]) -> Result<T, Stop>
+where
+    T::Error: Drop,
+    ensures answer { NumberRead T.TryFrom.try_from_gives (number_of (2 ^ 64 - 1) word.now) result }
+    ensures most { IfOk result (λ x. (n : ℕ) × (n < 2 ^ 64) × T.TryFrom.try_from_gives n (Ok x)) }
+{
+    let number = read_decimal(word, u64::MAX).ok_or(Stop::What)?;
+    T::try_from(number).map_err(|_| Stop::What)
 }

@@ -3,15 +3,15 @@
 #![tactic(auto)]
 
 mod decimal;
-mod hex;
+mod hexadecimal;
 mod lists;
 mod pieces;
 mod samples;
 mod stop;
 mod words;
 
-pub use decimal::read_decimal;
-pub use hex::{Hex, read_hex};
+pub use decimal::{read_decimal, read_number};
+pub use hexadecimal::{Hex, read_hex};
 pub use lists::{read_numbers, read_parts};
 pub use pieces::Pieces;
 pub use samples::{Runs, read_samples};

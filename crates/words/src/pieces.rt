@@ -1,33 +1,24 @@
 // Bytes cut at a separator: lines at line feeds, words at blanks, lists at commas.
-ghost use Rattle.std.specs.Prelude.{◌+◌, ◌<◌, length, IfSome, if◌then◌else◌};
+ghost use Rattle.std.specs.Prelude.{◌≡◌, ◌+◌, length, None, Some};
 ghost use Rattle.std.specs.Iterator.{at_most};
+ghost use Rattle.std.specs.Option.{option_copied};
+ghost use Rattle.words.specs.Pieces.{Taken};
 
-// The pieces still to come. Bytes without a separator are one piece, also where there are none.
+// The pieces still to come, none behind the last. Bytes without a separator are one piece, also where there are none.
 #[derive(Drop)]
 pub struct Pieces<'a> {
-    rest: &'a [u8],
-    separator: u8,
-    done: bool,
-}
-
-// Where the separator stands first.
-fn first(bytes: &[u8], separator: u8) -> Option<usize>
-    ensures { IfSome result (λ i. i < length bytes.now) }
-{
-    for (i, byte) in bytes.iter().enumerate() {
-        if *byte == separator {
-            return Some(i);
-        }
-    }
-    None
+    pub(crate) rest: Option<&'a [u8]>,
+    pub(crate) separator: u8,
 }
 
 impl<'a> Pieces<'a> {
-    pub fn new(bytes: &'a [u8], separator: u8) -> Self {
+    pub fn new(bytes: &'a [u8], separator: u8) -> Self
+        ensures rest { option_copied result.rest ≡ Some bytes.now }
+        ensures separator { result.separator ≡ separator }
+    {
         Pieces {
-            rest: bytes,
+            rest: Some(bytes),
             separator,
-            done: false,
         }
     }
 }
@@ -35,22 +26,19 @@ impl<'a> Pieces<'a> {
 impl<'a> Iterator for Pieces<'a> {
     type Item = &'a [u8];
 
-    ghost remaining = { λ s. at_most (if s.done then 0 else length s.rest.now + 1) };
+    ghost next_gives = { λ s r t. Taken s.separator (option_copied s.rest) (option_copied r) (option_copied t.rest) × (t.separator ≡ s.separator) };
+
+    ghost remaining = { λ s. at_most (elim s.rest [ None ↦ 0 | Some rest ↦ length rest.now + 1 ]) };
 
     fn next(&mut self) -> Option<&'a [u8]> {
-        if self.done {
-            return None;
-        }
-        let rest = self.rest;
-        match first(rest, self.separator) {
-            Some(i) => {
-                self.rest = &rest[i + 1..];
-                Some(&rest[0..i])
+        let rest = self.rest.take()?;
+        let separator = self.separator;
+        match rest.iter().position(|byte| *byte == separator) {
+            Some(at) => {
+                self.rest = Some(&rest[at + 1..]);
+                Some(&rest[..at])
             }
-            None => {
-                self.done = true;
-                Some(rest)
-            }
+            None => Some(rest),
         }
     }
 }

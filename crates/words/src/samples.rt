@@ -1,26 +1,17 @@
 // Samples in runs, each a value and how often it stands.
-use crate::decimal::read_decimal;
-use crate::lists::is_nothing;
-use crate::pieces::Pieces;
+use crate::lists::{is_nothing, read_each};
 use crate::stop::Stop;
+use crate::words::{COUNT_MOST, Words};
 use std::alloc::Global;
 use std::fmt;
 
-// The most samples that one word writes.
-const SAMPLES_MOST: usize = 1_000_000;
-
 // One run, `V` or `V*COUNT`.
-fn run(word: &[u8]) -> Option<(u16, usize)> {
-    let mut pieces = Pieces::new(word, b'*');
-    let value = read_decimal(pieces.next()?, u16::MAX as u64)?;
-    let count = match pieces.next() {
-        Some(count) => read_decimal(count, SAMPLES_MOST as u64)?,
-        None => 1,
-    };
-    if pieces.next().is_some() || value > u16::MAX as u64 {
-        return None;
-    }
-    Some((value as u16, count as usize))
+fn read_run(word: &[u8]) -> Result<(u16, usize), Stop> {
+    let mut fields = Words::between(word, b'*');
+    let value = fields.number()?;
+    let count = fields.count_or(1)?;
+    fields.end()?;
+    Ok((value, count))
 }
 
 // The samples that a word writes.
@@ -29,25 +20,14 @@ pub fn read_samples(heap: Global, word: &[u8]) -> Result<Vec<u16>, Stop> {
     if is_nothing(word) {
         return Ok(line);
     }
-    for piece in Pieces::new(word, b',') {
-        let (value, count) = run(piece).ok_or(Stop::What)?;
-        let length = line.len();
-        if length > SAMPLES_MOST || count > SAMPLES_MOST - length {
+    for (value, count) in read_each(heap, word, read_run)? {
+        let length = line.len().saturating_add(count);
+        if length as u64 > COUNT_MOST {
             return Err(Stop::What);
         }
-        line.resize(length + count, value)?;
+        line.resize(length, value)?;
     }
     Ok(line)
-}
-
-// How many samples at the front of a line are like the first.
-fn run_length(line: &[u16]) -> usize {
-    for (i, sample) in line.iter().enumerate() {
-        if *sample != line[0] {
-            return i;
-        }
-    }
-    line.len()
 }
 
 // Samples in the longest runs.
@@ -56,20 +36,14 @@ pub struct Runs<'a>(pub &'a [u16]);
 
 impl fmt::Display for Runs<'_> {
     fn fmt<W: fmt::Write>(&self, f: &mut fmt::Formatter<W>) -> fmt::Result {
-        let line = self.0;
-        for i in 0..line.len() {
-            if i > 0 && line[i] == line[i - 1] {
-                continue;
-            }
+        for (i, run) in self.0.chunk_by(|a, b| a == b).enumerate() {
             if i > 0 {
                 f.write_str(",")?;
             }
-            let sample = line[i];
-            let count = run_length(&line[i..]);
-            if count == 1 {
-                write!(f, "{sample}")?;
-            } else {
-                write!(f, "{sample}*{count}")?;
+            match run {
+                [] => {}
+                [sample] => write!(f, "{sample}")?,
+                [sample, ..] => write!(f, "{sample}*{}", run.len())?,
             }
         }
         Ok(())

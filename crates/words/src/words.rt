@@ -1,8 +1,13 @@
 // The words of a line, taken one by one.
-ghost use Rattle.std.specs.Prelude.{◌≤◌, IfSome, IfOk};
+ghost use Rattle.std.specs.Prelude.{◌≡◌, ℕ, ◌^◌, ◌<◌, ◌≤◌, Some, Ok, Err, is_some, if◌then◌else◌, IfSome, IfOk, IfErr};
+ghost use Rattle.std.specs.Option.{option_copied, ok_or};
+ghost use Rattle.std.specs.Result.{result_ok};
+ghost use Rattle.words.specs.declared.stop.Stop.TheVariants.{What};
+ghost use Rattle.words.specs.Digits.{number_of};
+ghost use Rattle.words.specs.Pieces.{Taken};
 
-use crate::decimal::read_decimal;
-use crate::hex::read_hex;
+use crate::decimal::{read_decimal, read_number};
+use crate::hexadecimal::read_hex;
 use crate::pieces::Pieces;
 use crate::stop::Stop;
 use std::alloc::Global;
@@ -15,91 +20,97 @@ pub struct Words<'a> {
     pieces: Pieces<'a>,
 }
 
+// A count, a length or an index.
+fn read_count(word: &[u8]) -> Result<usize, Stop>
+    ensures answer { result ≡ ok_or (number_of 1000000 word.now) What }
+    ensures most { IfOk result (λ count. count ≤ 1000000) }
+{
+    let count = read_decimal(word, COUNT_MOST).ok_or(Stop::What)?;
+    Ok(count as usize)
+}
+
 impl<'a> Words<'a> {
-    pub fn new(line: &'a [u8]) -> Self {
+    pub fn new(line: &'a [u8]) -> Self
+        ensures rest { option_copied result.pieces.rest ≡ Some line.now }
+        ensures separator { result.pieces.separator ≡ 32 }
+    {
+        Words::between(line, b' ')
+    }
+
+    // Words with another separator between them: the fields of a word.
+    pub fn between(bytes: &'a [u8], separator: u8) -> Self
+        ensures rest { option_copied result.pieces.rest ≡ Some bytes.now }
+        ensures separator { result.pieces.separator ≡ separator }
+    {
         Words {
-            pieces: Pieces::new(line, b' '),
+            pieces: Pieces::new(bytes, separator),
         }
     }
 
     // The next word.
-    pub fn word(&mut self) -> Result<&'a [u8], Stop> {
+    pub fn word(&mut self) -> Result<&'a [u8], Stop>
+        ensures answer { Taken self.old.pieces.separator (option_copied self.old.pieces.rest) (option_copied (result_ok result)) (option_copied self.new.pieces.rest) }
+        ensures what { IfErr result (λ e. e ≡ What) }
+        ensures separator { self.new.pieces.separator ≡ self.old.pieces.separator }
+    {
         self.pieces.next().ok_or(Stop::What)
     }
 
     // No word is left.
-    pub fn end(&mut self) -> Result<(), Stop> {
+    pub fn end(&mut self) -> Result<(), Stop>
+        ensures answer { result ≡ (if is_some self.old.pieces.rest then Err What else Ok tt) }
+    {
         match self.pieces.next() {
             Some(_) => Err(Stop::What),
             None => Ok(()),
         }
     }
 
-    // A number, at most so much.
-    pub fn number(&mut self, most: u64) -> Result<u64, Stop>
-        ensures { IfOk result (λ value. value ≤ most) }
+    // A number that its type has.
+    pub fn number<T: TryFrom<u64>>(&mut self) -> Result<T, Stop>
+    where
+        T::Error: Drop,
+        ensures most { IfOk result (λ x. (n : ℕ) × (n < 2 ^ 64) × T.TryFrom.try_from_gives n (Ok x)) }
     {
-        let word = self.word()?;
-        match read_decimal(word, most) {
-            Some(value) => Ok(value),
-            None => Err(Stop::What),
+        read_number(self.word()?)
+    }
+
+    // A number that its type has, or none for `-`.
+    pub fn optional<T: TryFrom<u64>>(&mut self) -> Result<Option<T>, Stop>
+    where
+        T::Error: Drop,
+        ensures most { IfOk result (λ value. IfSome value (λ x. (n : ℕ) × (n < 2 ^ 64) × T.TryFrom.try_from_gives n (Ok x))) }
+    {
+        match self.word()? {
+            b"-" => Ok(None),
+            word => Ok(Some(read_number(word)?)),
         }
     }
 
-    pub fn byte(&mut self) -> Result<u8, Stop> {
-        let value = self.number(u8::MAX as u64)?;
-        Ok(value as u8)
-    }
-
-    pub fn short(&mut self) -> Result<u16, Stop> {
-        let value = self.number(u16::MAX as u64)?;
-        Ok(value as u16)
-    }
-
-    pub fn long(&mut self) -> Result<u32, Stop> {
-        let value = self.number(u32::MAX as u64)?;
-        Ok(value as u32)
-    }
-
     // A count, a length or an index.
-    pub fn count(&mut self) -> Result<usize, Stop> {
-        let value = self.number(COUNT_MOST)?;
-        Ok(value as usize)
+    pub fn count(&mut self) -> Result<usize, Stop>
+        ensures most { IfOk result (λ count. count ≤ 1000000) }
+    {
+        read_count(self.word()?)
     }
 
     // A count, or another where no word is left.
     pub fn count_or(&mut self, other: usize) -> Result<usize, Stop> {
         match self.pieces.next() {
-            Some(word) => match read_decimal(word, COUNT_MOST) {
-                Some(value) => Ok(value as usize),
-                None => Err(Stop::What),
-            },
+            Some(word) => read_count(word),
             None => Ok(other),
         }
     }
 
     // The words that are left.
-    pub fn rest(self) -> Pieces<'a> {
-        self.pieces
-    }
-
-    // A number at most so much, or none for `-`.
-    pub fn optional(&mut self, most: u64) -> Result<Option<u64>, Stop>
-        ensures { IfOk result (λ value. IfSome value (λ n. n ≤ most)) }
+    pub fn rest(self) -> Pieces<'a>
+        ensures answer { result ≡ self.entry.pieces }
     {
-        let word = self.word()?;
-        if word == b"-".as_slice() {
-            return Ok(None);
-        }
-        match read_decimal(word, most) {
-            Some(value) => Ok(Some(value)),
-            None => Err(Stop::What),
-        }
+        self.pieces
     }
 
     // Hexadecimal bytes.
     pub fn hex(&mut self, heap: Global) -> Result<Vec<u8>, Stop> {
-        let word = self.word()?;
-        read_hex(heap, word)
+        read_hex(heap, self.word()?)
     }
 }
