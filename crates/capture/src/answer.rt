@@ -3,7 +3,8 @@ ghost use Rattle.std.specs.Prelude.{◌≡◌};
 
 use refusal::Refusal;
 
-// A refusal's number and place, or the payload's length. A number of 0 is no refusal, a length of 0 is no run-in.
+// A refusal's number and place, or the payload's length. A number of 0 is no refusal, a length of 0 is no run-in: plain numbers,
+// since C has neither Option nor Result.
 #[repr(C)]
 #[derive(Clone, Copy, PartialEq, Eq, Debug)]
 pub struct LineReading {

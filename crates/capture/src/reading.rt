@@ -6,7 +6,8 @@ ghost use Rattle.line.specs.Scales.{found_by};
 ghost use Rattle.line.specs.Symbols.{level_at};
 ghost use Rattle.capture.specs.Readings.{samples_of, one_two_found, bytes_fault, bytes_answer, bytes_found};
 
-use crate::samples::{MOST_SAMPLES, gather};
+use crate::samples::gather;
+use line::checks::MOST_SAMPLES;
 use line::depth::Depth;
 use line::reading::{Cuts, read_by};
 use refusal::Refusal;

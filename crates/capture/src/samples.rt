@@ -2,9 +2,6 @@
 ghost use Rattle.std.specs.Prelude.{◌≡◌, ◌/◌, length};
 ghost use Rattle.capture.specs.Readings.{samples_of};
 
-// The most samples that a line has.
-pub(crate) const MOST_SAMPLES: usize = 3840;
-
 // Fills the line with the samples that the bytes hold, by place: of what a `zip` with `iter_mut` writes, a proof knows nothing.
 pub(crate) fn gather(bytes: &[u8], line: &mut [u16])
     requires room { length line.old ≡ length bytes.now / 2 }

@@ -10,10 +10,6 @@ use std::test::Fail;
 use system::system::LineSystem;
 use twox::two_x::TwoX;
 
-fn one_x() -> Result<OneX, Refusal> {
-    Ok(OneX::new(Levels::new(Depth::Eight, 4, 40)?))
-}
-
 fn spot() -> Result<Sending, Refusal> {
     Sending::cut(7, 3, b"spot 17", Room::OneX)
 }
@@ -42,7 +38,7 @@ fn comes_back<L: LineSystem>(rt: &impl Abort, system: &L, frame: &SealedFrame) {
 
 #[test]
 fn drawn_and_read_back(rt: HostRuntime) -> Result<(), Fail> {
-    comes_back(&rt, &one_x()?, &sealed(30)?);
+    comes_back(&rt, &OneX::new(Levels::usual(Depth::Eight)), &sealed(30)?);
     comes_back(&rt, &TwoX::new(Depth::Eight), &sealed(60)?);
     Ok(())
 }
@@ -63,7 +59,7 @@ fn is_refused<L: LineSystem>(rt: &impl Abort, system: &L, size: usize) -> Result
 #[test]
 fn lengths_that_are_not_drawn(rt: HostRuntime) -> Result<(), Fail> {
     for size in [16usize, 29, 31, 60] {
-        is_refused(&rt, &one_x()?, size)?;
+        is_refused(&rt, &OneX::new(Levels::usual(Depth::Eight)), size)?;
     }
     for size in [16usize, 30, 59] {
         is_refused(&rt, &TwoX::new(Depth::Eight), size)?;
@@ -81,6 +77,6 @@ fn marked_and_read_back(rt: HostRuntime) -> Result<(), Fail> {
     let mut refused = [None; 2];
     let frame = mark_frame(30, &[&[&wanted], &[&wanted, &wanted]], &mut refused)?;
     assert_eq!(rt; refused, [None, Some(Refusal::FrameEnd(1))]);
-    comes_back(&rt, &one_x()?, &frame);
+    comes_back(&rt, &OneX::new(Levels::usual(Depth::Eight)), &frame);
     Ok(())
 }

@@ -20,6 +20,7 @@ impl Table {
     {
         match self.index(block.number) {
             Some(i) => {
+                // in two steps, since a slot with ghost fields cannot be lent out of `self.slots` in one
                 let slots = &mut self.slots;
                 slots[i].serve(*block, frame, out)
             }

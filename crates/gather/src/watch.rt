@@ -61,6 +61,7 @@ impl Table {
         ensures next { gathered result ≡ empty }
     {
         let mut slots = [Slot::new(0); 8];
+        // by index: of a slice that is zipped with another, a proof learns nothing of what is written into it
         for (at, number) in watch.iter().enumerate() {
             slots[at] = Slot::new(*number);
         }

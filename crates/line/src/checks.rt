@@ -8,7 +8,7 @@ use refusal::Refusal;
 // Symbols in a line, and the most samples that one has.
 pub const SYMBOLS: usize = 240;
 
-const MOST_SAMPLES: usize = 3840;
+pub const MOST_SAMPLES: usize = 3840;
 
 // Samples lie below this many units.
 const SAMPLE_LIMIT: u16 = 256;

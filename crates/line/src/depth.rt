@@ -39,13 +39,14 @@ impl TryFrom<u8> for Depth {
 }
 
 impl Depth {
-    // The depth of so many bits.
+    // The depth of so many bits, by the name that callers have known.
     pub fn from_bits(bits: u8) -> Result<Depth, Refusal>
         ensures answer { result ≡ depth_of bits }
     {
         Depth::try_from(bits)
     }
 
+    // The number of bits: a table beside the other way's, since std derives no numbers of an enum.
     pub fn bits(&self) -> u8
         ensures answer { result ≡ depth_bits self.now }
     {
@@ -56,7 +57,7 @@ impl Depth {
         }
     }
 
-    // The unit q in which levels are given, so that one rule serves all depths.
+    // The unit q in which levels are given, so that one rule serves all depths. A table too, since it says the three at a glance.
     pub fn unit(&self) -> u16
         ensures answer { result ≡ unit_of self.now }
     {

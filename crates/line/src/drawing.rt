@@ -9,6 +9,7 @@ use crate::symbols::weight;
 use refusal::Refusal;
 
 // The level of each value of a symbol: two values are one bit, four are two.
+// No const parameter: a symbol has one bit or two and no other number, which an enum says and a number would not.
 #[derive(Clone, Copy, PartialEq, Eq, Debug)]
 pub enum Palette {
     Two([u16; 2]),

@@ -11,7 +11,7 @@ use refusal::Refusal;
 use std::slice::from_ref;
 
 // The cuts between the values of a symbol: one between two values, three between four. A symbol is read as the number of
-// cuts that its doubled level reaches.
+// cuts that its doubled level reaches. No const parameter, as at a palette.
 #[derive(Clone, Copy, PartialEq, Eq, Debug)]
 pub enum Cuts {
     One(u32),

@@ -15,13 +15,9 @@ pub(crate) const NUMBER: u8 = 7;
 
 pub(crate) const VERSION: u8 = 3;
 
-pub(crate) fn one_x() -> Result<OneX, Refusal> {
-    Ok(OneX::new(Levels::new(Depth::Eight, 4, 40)?))
-}
-
 // A reader that watches the message's number.
 pub(crate) fn watching() -> Result<Reader<OneX>, Refusal> {
-    Reader::new(one_x()?, &[NUMBER])
+    Reader::new(OneX::new(Levels::usual(Depth::Eight)), &[NUMBER])
 }
 
 // The line of a frame with one part of the message, sent under a number.
@@ -34,7 +30,9 @@ pub(crate) fn part_of(number: u8, part: u8) -> Result<[u16; 240], Refusal> {
     let mut frame = OpenFrame::open(30)?;
     frame.put(&[&wanted])?;
     let mut line = [0u16; 240];
-    frame.seal().draw(&one_x()?, &mut line)?;
+    frame
+        .seal()
+        .draw(&OneX::new(Levels::usual(Depth::Eight)), &mut line)?;
     Ok(line)
 }
 

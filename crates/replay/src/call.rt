@@ -5,7 +5,7 @@ use std::alloc::AllocError;
 use std::error::Error;
 use std::fmt;
 
-// One call.
+// One call. No Option of an offer: a restart is a call like another, and not the lack of one.
 #[derive(Clone, Copy, PartialEq, Eq, Debug)]
 pub enum Call<'a> {
     // a line is offered at a frame number, with a tray that holds these bytes
@@ -17,7 +17,7 @@ pub enum Call<'a> {
     Restart,
 }
 
-// What one call came to.
+// What one call came to, with a case for each kind of call.
 #[derive(PartialEq, Eq, Debug, Drop)]
 pub enum Outcome {
     // the answer to an offer, and its tray afterwards

@@ -3,7 +3,7 @@ use reader::Answer;
 use refusal::Refusal;
 
 // A refusal's number and place; or a payload's length, the bytes used in the tray, and the blocks skipped. A number of 0 is no
-// refusal, a length of 0 is no run-in.
+// refusal, a length of 0 is no run-in. Plain numbers, since C has neither Option nor Result.
 #[repr(C)]
 #[derive(Clone, Copy, PartialEq, Eq, Debug)]
 pub struct OfferReading {

@@ -23,6 +23,7 @@ pub(crate) fn offer_all<L: LineSystem>(
         used: 0,
         skipped: 0,
     });
+    // the number of the round is the frame's, and no index
     for round in 0..rounds {
         last = reader.offer(round as u64, line, tray);
     }

@@ -33,6 +33,7 @@ impl Room {
     fn parts_for(self, length: usize) -> usize
         ensures { result ≡ part_count (room_bytes self) length }
     {
+        // n is a count of parts, and no index
         for n in 1..PARTS_MOST {
             if length <= self.fits_into(n) {
                 return n;

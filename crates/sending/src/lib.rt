@@ -15,7 +15,7 @@ mod sending;
 pub use block::Block;
 pub use limits::{
     BEFORE_BODY, BESIDE_BODY, LAST_MOST, MESSAGE_MOST, PART_MOST, PART_WEIGHT, PARTS_MOST,
-    UNCOUNTED, VERSION_WEIGHT, WORD,
+    UNCOUNTED, VERSION_MOST, VERSION_WEIGHT, WORD,
 };
 pub use room::Room;
 pub use sending::Sending;

@@ -34,6 +34,7 @@ impl fmt::Display for Shown<'_> {
 // Prints the blocks of a sending, and puts them one behind the other into a payload.
 fn show_blocks(rt: &HostRuntime, sending: &Sending) -> anyhow::Result<Vec<u8>> {
     let mut payload = Vec::from_slice(rt.alloc(), &[0xeb, 0x52])?;
+    // the number is the part's own, and no index
     for part in (0..4).take(sending.parts()) {
         let mut block = vec![in rt.alloc(); 0; PAYLOAD_LENGTH]?;
         let end = write_block(sending, part, &mut block, 0)?;

@@ -11,7 +11,6 @@ pub(crate) const HEAD: usize = 3;
 
 pub(crate) const LENGTH_MOST: u8 = 200;
 
-pub(crate) const VERSION_MOST: u8 = 15;
 // The most faults that are kept.
 pub(crate) const FAULTS_MOST: usize = 9;
 // The bytes of a fault, and how many layers there are.

@@ -7,9 +7,10 @@ ghost use Rattle.tray.specs.Reading.{message, fault, message_size, fault_size, m
 
 use super::cause::Cause;
 use super::entry::Entry;
-use super::limits::{HEAD, LAYERS, LENGTH_MOST, PLACE_LEAST, PLACE_MOST, VERSION_MOST};
+use super::limits::{HEAD, LAYERS, LENGTH_MOST, PLACE_LEAST, PLACE_MOST};
 use super::row::Kind;
 use refusal::Refusal;
+use sending::VERSION_MOST;
 
 // The byte at a place, where it lies in a range. Refused there.
 pub(crate) fn byte_at(tray: &[u8], place: usize, least: u8, most: u8) -> Result<u8, Refusal>
@@ -36,6 +37,7 @@ impl Kind for MessageKind {
         let version = byte_at(tray, place + 1, 0, VERSION_MOST)?;
         let size = byte_at(tray, place + 2, 0, LENGTH_MOST)? as usize;
         let from = place + HEAD;
+        // a match, not ok_or and `?`: it is as short, and each case says what it answers
         match tray.get(from..from + size) {
             Some(bytes) => Ok(Entry::Message {
                 place,

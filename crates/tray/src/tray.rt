@@ -16,7 +16,8 @@ pub struct Tray<'a> {
     ghost whole: { messages_ahead messages bytes.now ++ faults_ahead faults bytes.now ≡ entries_in bytes.now },
 }
 
-// The entries of a tray that are still to be given, in order: messages, then faults.
+// The entries of a tray that are still to be given, in order: messages, then faults. No part of it is a tray: a tray's rows are
+// whole, these get shorter.
 #[derive(Drop, Debug)]
 pub struct Entries<'a> {
     pub(crate) bytes: &'a [u8],

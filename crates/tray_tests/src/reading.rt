@@ -50,6 +50,7 @@ fn wrong_bytes(rt: HostRuntime) {
 #[test]
 fn bytes_lacking_or_left_over(rt: HostRuntime) {
     let bytes = right();
+    // n is how long the bytes are, and no index
     for n in 0..15usize {
         assert_eq!(rt; wrong(&bytes[0..n]), Some(Refusal::Tray(n)));
     }

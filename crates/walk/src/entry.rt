@@ -39,7 +39,7 @@ impl Cause {
     }
 }
 
-// A block that is read, or a fault. It borrows the payload's bytes.
+// A block that is read, or a fault. It borrows the payload's bytes. No Result: a fault is an entry like another, and told as one.
 #[derive(Clone, Copy, PartialEq, Eq, Debug)]
 pub enum Entry<'a> {
     Block {
