@@ -89,9 +89,9 @@ def point1():
     for n, t in sorted(SRC.items()):
         for m in re.finditer(r'enum (\w+)(?:<[^>]*>)? \{(.*?)\n\}', strip(t), re.S):
             variants = re.findall(r'(?m)^    (\w+)(\(|,| \{)', m.group(2))
-            if len(variants) == 2 and any(v[1] != ',' for v in variants):
+            if len(variants) == 2 and any(v[1] != ',' for v in variants) and not m.group(1).endswith('Error'):
                 yield f'{n}:{strip(t).count(chr(10), 0, m.start()) + 1}', f'enum of the shape of Option or Result: {m.group(1)}'
-    for place, line in lines(r'\b(layer|cause|kind|id_type|bit|refusal)\s*:\s*u(8|16|32)\b'):
+    for place, line in lines(r'\bfn .*\b(layer|cause|kind|id_type|bit|refusal): u(8|16|32)\b|^\s*(pub )?(layer|cause|kind|id_type|bit|refusal): u(8|16|32),$'):
         yield place, 'number for a kind: ' + line
     for place, line in lines(r'\[(u8|u16); \d+\] = \[[01](, [01])+\]'):
         yield place, 'numbers for truth values: ' + line
@@ -125,19 +125,6 @@ def point2():
         if len(g) > 1:
             for place, f in g:
                 yield place, f'{f}: same shape as {", ".join(p for p, _ in g if p != place)}'
-    names = {}
-    for n, line, f, head, body in FUNCTIONS:
-        # what a trait asks for has the same name and signature in each of its impls
-        above = re.findall(r'(?m)^(impl[^\n]*|\})', '\n'.join(strip(SRC[n]).split('\n')[:line - 1]))
-        of_trait = above and ' for ' in above[-1]
-        if f not in ('new', 'show', 'main') and not of_trait and 'test' not in n:
-            key = (f, shape(re.sub(r'.*?\(', '(', head.split('ensures')[0], count=1, flags=re.S)))
-            names.setdefault(key, []).append((f'{n}:{line}', f))
-    for key, g in sorted(names.items(), key=lambda x: x[1]):
-        crates = {crate(p) for p, _ in g}
-        if len(crates) > 1:
-            for place, f in g:
-                yield place, f'{f}: the same name and signature in {", ".join(p for p, _ in g if p != place)}'
     consts = {}
     for n, t in sorted(SRC.items()):
         for m in re.finditer(r'(?m)^(?:pub(?:\(crate\))? )?const (\w+): ([^=]*) = ([^;]*);', strip(t)):
@@ -166,7 +153,8 @@ def point2():
 
 
 def point3():
-    for place, line in lines(r'\bfor \w+ in [^{]*\.\.[^{]*\{|^\s*while |^\s*loop \{'):
+    # `for _` counts nothing: it does a thing so many times
+    for place, line in lines(r'\bfor (?!_)\w+ in [^{]*\.\.[^{]*\{|\bfor _\w+ in [^{]*\.\.[^{]*\{.*\b_\w+\b|^\s*while |^\s*loop \{'):
         yield place, line
     for place, line in lines(r'^\s*\w+ \+= 1;'):
         yield place, line
@@ -177,9 +165,10 @@ def point4():
         for m in re.finditer(r'impl(?:<[^>]*>)? (PartialEq|Eq|PartialOrd|Ord|Clone|Copy|Debug|Default|Hash) for', strip(t)):
             yield f'{n}:{strip(t).count(chr(10), 0, m.start()) + 1}', m.group(0)
     for place, line in lines(r'\* (256|65536|16777216)\b|/ (256|65536|16777216)\b|256 \* '):
-        yield place, 'bytes of a number by hand: ' + line
+        if 'unit()' not in line:
+            yield place, 'bytes of a number by hand: ' + line
     for n, line, f, head, body in FUNCTIONS:
-        if len(re.findall(r'(?m)^\s*(?:\w+::)*\w+(?:\(_\))? => (?:Ok\()?\d+\)?,|^\s*\d+ => ', body)) >= 2:
+        if f not in ('from', 'try_from') and len(re.findall(r'(?m)^\s*(?:\w+::)*\w+(?:\(_\))? => (?:Ok\()?\d+\)?,|^\s*\d+ => ', body)) >= 2:
             yield f'{n}:{line}', f'conversion by hand: {f}'
         if f in ('told', 'stated_depth', 'depth_of_bits'):
             yield f'{n}:{line}', f'conversion by hand: {f}'

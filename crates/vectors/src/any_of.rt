@@ -1,4 +1,5 @@
-// One of three line systems, as a line system.
+// One of three line systems, as a line system. An enum, and so a match in each method: which one it is the case says as it is
+// read, and a boxed dyn could not be handed out.
 ghost use Rattle.vectors.specs.declared.any_of.AnyOf.TheVariants.{One, Two, Both};
 
 use line::depth::Depth;

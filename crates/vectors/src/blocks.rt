@@ -29,8 +29,8 @@ fn read_room(words: &mut Words) -> Result<Room, Stop> {
 
 pub fn cut(mut case: Case) -> Result<String, Stop> {
     let room = read_room(&mut case.words)?;
-    let number = case.words.number()?;
-    let version = case.words.number()?;
+    let number = case.words.value()?;
+    let version = case.words.value()?;
     let message = case.hex()?;
     case.words.end()?;
     let sending = Sending::cut(number, version, &message, room)?;
@@ -61,8 +61,8 @@ fn written(heap: Global, sending: &Sending, i: u8) -> Result<Vec<u8>, Stop> {
 }
 
 pub fn parts(mut case: Case) -> Result<String, Stop> {
-    let number = case.words.number()?;
-    let version = case.words.number()?;
+    let number = case.words.value()?;
+    let version = case.words.value()?;
     let parts = case.parts()?;
     case.words.end()?;
     let heap = case.heap;

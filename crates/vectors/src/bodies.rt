@@ -44,7 +44,7 @@ pub fn time(mut case: Case) -> Result<String, Stop> {
 }
 
 pub fn plain(mut case: Case) -> Result<String, Stop> {
-    let number = case.words.number()?;
+    let number = case.words.value()?;
     let body = case.hex()?;
     case.words.end()?;
     if !PlainBytes::takes(number) {
@@ -66,8 +66,8 @@ fn written<'a, K: WritableKind<'a>>(
 }
 
 pub fn write_time(mut case: Case) -> Result<String, Stop> {
-    let seconds = case.words.number()?;
-    let milliseconds = case.words.number()?;
+    let seconds = case.words.value()?;
+    let milliseconds = case.words.value()?;
     let room = case.words.count()?;
     case.words.end()?;
     let time = Time {
@@ -79,7 +79,7 @@ pub fn write_time(mut case: Case) -> Result<String, Stop> {
 
 // SECONDS MILLIS, none where SECONDS is.
 fn read_time(words: &mut Words) -> Result<Option<Time>, Stop> {
-    match (words.optional()?, words.optional()?) {
+    match (words.optional_value()?, words.optional_value()?) {
         (Some(seconds), Some(milliseconds)) => Ok(Some(Time {
             seconds,
             milliseconds,
@@ -91,7 +91,7 @@ fn read_time(words: &mut Words) -> Result<Option<Time>, Stop> {
 
 // BSID MAJOR MINOR, none where BSID is.
 fn read_channel(words: &mut Words) -> Result<Option<Channel>, Stop> {
-    match (words.optional()?, words.optional()?, words.optional()?) {
+    match (words.optional_value()?, words.optional_value()?, words.optional_value()?) {
         (Some(bsid), Some(major), Some(minor)) => Ok(Some(Channel { bsid, major, minor })),
         (Some(_), _, _) => Err(Stop::What),
         (None, _, _) => Ok(None),
@@ -99,7 +99,7 @@ fn read_channel(words: &mut Words) -> Result<Option<Channel>, Stop> {
 }
 
 pub fn write_content(mut case: Case) -> Result<String, Stop> {
-    let kind = case.words.optional()?;
+    let kind = case.words.optional_value()?;
     let valid_until = read_time(&mut case.words)?;
     let id = case.hex()?;
     let channel = read_channel(&mut case.words)?;

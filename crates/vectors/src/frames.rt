@@ -41,8 +41,8 @@ impl Want {
     // All indices past a byte are past every sending.
     fn read(heap: Global, word: &[u8]) -> Result<Want, Stop> {
         let mut fields = Words::between(word, b'/');
-        let number = fields.number()?;
-        let version = fields.number()?;
+        let number = fields.value()?;
+        let version = fields.value()?;
         let parts = read_parts(heap, fields.word()?)?;
         let index = fields.count()?.min(u8::MAX as usize) as u8;
         fields.end()?;

@@ -4,6 +4,7 @@ use crate::systems::{Name, System};
 use crate::text::ok;
 use capture::answer::LineReading;
 use capture::call::rueladle_read_line;
+use line::checks::PAYLOAD_ROOM;
 use line::depth::Depth;
 use onex::levels::Levels;
 use refusal::Refusal;
@@ -11,13 +12,10 @@ use std::alloc::Global;
 use system::system::LineSystem;
 use words::{Hex, Runs, Stop, Words};
 
-// The room of a payload buffer that a case doesn't state.
-const PAYLOAD_ROOM: usize = 60;
-
 pub fn levels(mut case: Case) -> Result<String, Stop> {
-    let bits: u32 = case.words.number()?;
-    let zero = case.words.number()?;
-    let one = case.words.number()?;
+    let bits: u32 = case.words.value()?;
+    let zero = case.words.value()?;
+    let one = case.words.value()?;
     case.words.end()?;
     let _levels = Levels::new(Depth::try_from(bits)?, zero, one)?;
     ok(case.heap)
@@ -36,8 +34,9 @@ pub fn show_found(heap: Global, found: Option<usize>, out: &[u8]) -> Result<Stri
 
 pub fn read(mut case: Case) -> Result<String, Stop> {
     let name = Name::try_from(case.words.word()?)?;
-    let bits: u32 = case.words.number()?;
+    let bits: u32 = case.words.value()?;
     let line = case.samples()?;
+    // a case that states no room has what a reader asks for
     let room = case.words.count_or(PAYLOAD_ROOM)?;
     case.words.end()?;
     let system = name.reading(Depth::try_from(bits)?);
@@ -64,7 +63,7 @@ fn show_reading(heap: Global, reading: LineReading, out: &[u8]) -> Result<String
 }
 
 pub fn read_bytes(mut case: Case) -> Result<String, Stop> {
-    let bits = case.words.number()?;
+    let bits = case.words.value()?;
     let samples = case.hex()?;
     let room = case.words.count()?;
     case.words.end()?;
@@ -87,9 +86,9 @@ impl Drawing {
     pub fn read(words: &mut Words) -> Result<Drawing, Stop> {
         Ok(Drawing {
             name: Name::try_from(words.word()?)?,
-            bits: words.number()?,
-            zero: words.number()?,
-            one: words.number()?,
+            bits: words.value()?,
+            zero: words.value()?,
+            one: words.value()?,
             count: words.count()?,
         })
     }

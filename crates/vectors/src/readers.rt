@@ -8,7 +8,7 @@ use words::{Hex, Stop};
 
 pub fn make(mut case: Case) -> Result<Reader<System>, Stop> {
     let name = Name::try_from(case.words.word()?)?;
-    let bits: u32 = case.words.number()?;
+    let bits: u32 = case.words.value()?;
     let watch = case.numbers()?;
     case.words.end()?;
     let system = name.reading(Depth::try_from(bits)?);
@@ -32,7 +32,7 @@ fn show_answer(heap: Global, answer: Answer, tray: &[u8]) -> Result<String, Stop
 }
 
 pub fn offer(mut case: Case, reader: &mut Reader<System>) -> Result<String, Stop> {
-    let frame = case.words.number()?;
+    let frame = case.words.value()?;
     let line = case.samples()?;
     let room = case.words.count()?;
     case.words.end()?;
@@ -42,7 +42,7 @@ pub fn offer(mut case: Case, reader: &mut Reader<System>) -> Result<String, Stop
 }
 
 pub fn held(mut case: Case, reader: &Reader<System>) -> Result<String, Stop> {
-    let number = case.words.number()?;
+    let number = case.words.value()?;
     case.words.end()?;
     match reader.held(number) {
         Some(count) => Ok(format!(in case.heap; "held {count}")?),

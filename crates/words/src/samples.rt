@@ -8,7 +8,7 @@ use std::fmt;
 // One run, `V` or `V*COUNT`.
 fn read_run(word: &[u8]) -> Result<(u16, usize), Stop> {
     let mut fields = Words::between(word, b'*');
-    let value = fields.number()?;
+    let value = fields.value()?;
     let count = fields.count_or(1)?;
     fields.end()?;
     Ok((value, count))

@@ -66,8 +66,15 @@ impl<'a> Words<'a> {
         }
     }
 
+    // A number, at most so much.
+    pub fn number(&mut self, most: u64) -> Result<u64, Stop>
+        ensures { IfOk result (λ value. value ≤ most) }
+    {
+        read_decimal(self.word()?, most).ok_or(Stop::What)
+    }
+
     // A number that its type has.
-    pub fn number<T: TryFrom<u64>>(&mut self) -> Result<T, Stop>
+    pub fn value<T: TryFrom<u64>>(&mut self) -> Result<T, Stop>
     where
         T::Error: Drop,
         ensures most { IfOk result (λ x. (n : ℕ) × (n < 2 ^ 64) × T.TryFrom.try_from_gives n (Ok x)) }
@@ -75,8 +82,18 @@ impl<'a> Words<'a> {
         read_number(self.word()?)
     }
 
+    // A number at most so much, or none for `-`.
+    pub fn optional(&mut self, most: u64) -> Result<Option<u64>, Stop>
+        ensures { IfOk result (λ value. IfSome value (λ n. n ≤ most)) }
+    {
+        match self.word()? {
+            b"-" => Ok(None),
+            word => Ok(Some(read_decimal(word, most).ok_or(Stop::What)?)),
+        }
+    }
+
     // A number that its type has, or none for `-`.
-    pub fn optional<T: TryFrom<u64>>(&mut self) -> Result<Option<T>, Stop>
+    pub fn optional_value<T: TryFrom<u64>>(&mut self) -> Result<Option<T>, Stop>
     where
         T::Error: Drop,
         ensures most { IfOk result (λ value. IfSome value (λ x. (n : ℕ) × (n < 2 ^ 64) × T.TryFrom.try_from_gives n (Ok x))) }
