@@ -6,7 +6,7 @@ ghost use Rattle.std.specs.Prelude.{◌≡◌};
 ghost use Rattle.crc.specs.Crc.{fed, feds, crc};
 
 // The register before the first byte: all ones.
-pub const START: u32 = 0xFFFF_FFFF;
+const START: u32 = 0xFFFF_FFFF;
 
 // What eight shifts make of a register that has only its top byte.
 const TABLE: [u32; 256] = [

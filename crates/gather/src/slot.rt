@@ -11,7 +11,7 @@ pub struct Part {
 }
 
 // Nothing is held, or parts of one version and last number.
-// No Option: a rule of the project wants an enum of numbers, matched in place together with the block that comes.
+// No Option: the project wants a slot's state to be an enum of numbers, matched in place together with the block that comes.
 #[derive(Clone, Copy, PartialEq, Eq, Debug)]
 pub enum State {
     Empty,

@@ -100,8 +100,8 @@ fn levels_and_depths(rt: HostRuntime) -> Result<(), Fail> {
             && !allowed(16, 31)
             && !allowed(4, 101)
     );
-    assert_eq!(rt; Depth::try_from(10u8), Ok(Depth::Ten));
-    assert_eq!(rt; Depth::try_from(9u8), Err(Refusal::Depth));
+    assert_eq!(rt; Depth::from_bits(10), Ok(Depth::Ten));
+    assert_eq!(rt; Depth::from_bits(9), Err(Refusal::Depth));
     let one = OneX::new(Levels::new(Depth::Eight, 4, 20)?);
     assert!(rt; first_else(one, TwoX::new(Depth::Ten)).is_err());
     Ok(())
