@@ -25,6 +25,7 @@ pub(crate) fn content_in<'a>(body: &'a [u8]) -> Result<Content<'a>, Refusal>
     let valid_until = has_until.then(|| time_at(body, UNTIL_PLACE)).transpose()?;
     let at = id_place(valid_until);
     let id = &body[at..body.len().min(at + size)];
+    // no `?`: only here does a place in the identifier become one in the body
     if let Some(i) = wrong_character(id_type, id) {
         return Err(Refusal::Body(at + i));
     }

@@ -8,7 +8,8 @@ use super::layout::{CHANNEL_SIZE, MILLISECONDS_MOST, MILLISECONDS_OFFSET, TEN_BI
 use super::message::{Channel, Time};
 use refusal::Refusal;
 
-// The bytes of a field that begins at a place of a body. Where one lacks, the body is refused at its length.
+// The bytes of a field that begins at a place of a body. Where one lacks, the body is refused at its length. Body and place stay
+// two arguments: a refusal tells a place in the whole body, so the rest alone would not do.
 pub(crate) fn field<const N: usize>(body: &[u8], at: usize) -> Result<[u8; N], Refusal>
     ensures { result ≡ unless Body (wrong (nat_lt (length body.now) (at + N)) (length body.now)) (take N (drop at body.now)) }
 {

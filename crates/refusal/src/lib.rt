@@ -50,7 +50,7 @@ impl fmt::Display for Refusal {
 impl Error for Refusal {}
 
 impl Refusal {
-    // The number by which the refusal is known outside.
+    // The number by which the refusal is known outside. A table, and no `as`: the cases have fields.
     pub fn number(&self) -> u8
         ensures answer { result ≡ refusal_number self.now }
     {

@@ -50,6 +50,7 @@ impl Room {
     {
         let mut parts = Parts::new();
         let mut rest = message;
+        // by count, and not by `chunks`: the last part may be empty
         for _i in 1..self.parts_for(message.len()) {
             let (part, others) = rest.split_at(self.width().min(rest.len()));
             parts.push(part);

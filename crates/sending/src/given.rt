@@ -39,12 +39,14 @@ pub(crate) fn not_of_a_sending(number: u8, version: u8, count: usize) -> bool
     number == 0 || version > VERSION_MOST || count == 0 || count > PARTS_MOST
 }
 
+// Number and version come side by side, as the public calls have them: the struct of both is the Sending that is made.
 impl Sending {
     // A sending of given parts, refused where a part is too long, then where no sending has the number, version or count.
     pub fn of_parts(number: u8, version: u8, parts: &[&[u8]]) -> Result<Sending, Refusal>
         ensures answer { result ≡ of_parts (record { number = number; version = version; parts = texts parts.now }) }
         ensures rule { IfOk result IsSending }
     {
+        // no `?`: only here does a length become a refusal
         if let Some(length) = too_long(parts) {
             return Err(Refusal::TooLong(length));
         }

@@ -12,7 +12,7 @@ pub enum Room {
 }
 
 impl Room {
-    // How many bytes the payload has for blocks.
+    // How many bytes the payload has for blocks: a table, since that is no number of its kind.
     pub fn bytes(self) -> usize
         ensures answer { result ≡ room_bytes self }
     {
