@@ -19,7 +19,7 @@ fn cuts(depth: Depth, line: &[u16]) -> Option<Cuts>
     onex::measure::cuts(depth, line).or_else(|| twox::cuts::cuts(depth, line))
 }
 
-// Reads samples.
+// Reads samples. Depth, samples and payload stay three arguments: they come so from C.
 fn read_samples(depth: Depth, line: &[u16], payload: &mut [u8]) -> Result<Option<usize>, Refusal>
     ensures answer { result ≡ read_answer (line_fault depth line.now) (one_two_found depth line.now) (length payload.old) }
     ensures payload { payload.new ≡ read_buffer result (one_two_found depth line.now) payload.old }
@@ -36,6 +36,7 @@ fn read_bytes(depth: Depth, bytes: &[u8], payload: &mut [u8]) -> Result<Option<u
     if bytes.len() % 2 != 0 || count > MOST_SAMPLES {
         return Err(Refusal::SampleCount(count));
     }
+    // in fixed memory: nothing here allocates
     let mut samples = [0u16; MOST_SAMPLES];
     let line = &mut samples[..count];
     gather(bytes, line);
