@@ -8,38 +8,39 @@ mod tests {
     use refusal::Refusal;
     use sending::{Room, Sending};
     use std::test::Fail;
-    use walk::{Entry, Walk};
+    use walk::{Cause, Entry, Walk};
     use wire::write_block;
 
-    // What a walk over a payload gives: how many blocks are read, how many faults, and of the last fault its cause and place.
+    // What a walk over a payload gives: how many blocks are read, how many faults, and the last fault's cause and place.
     #[derive(Drop, PartialEq, Eq, Debug)]
     struct Seen {
         blocks: usize,
         faults: usize,
-        cause: u8,
-        place: usize,
+        last: Option<(Cause, usize)>,
     }
 
     impl Seen {
-        fn new(blocks: usize, faults: usize, cause: u8, place: usize) -> Seen {
+        fn new(blocks: usize, faults: usize, cause: Cause, place: usize) -> Seen {
             Seen {
                 blocks,
                 faults,
-                cause,
-                place,
+                last: Some((cause, place)),
             }
         }
     }
 
     fn walk_over(payload: &[u8]) -> Seen {
-        let mut all = Seen::new(0, 0, 0, 0);
+        let mut all = Seen {
+            blocks: 0,
+            faults: 0,
+            last: None,
+        };
         for entry in Walk::new(payload) {
             match entry {
                 Entry::Block { .. } => all.blocks = all.blocks.wrapping_add(1),
                 Entry::Fault { place, cause, .. } => {
                     all.faults = all.faults.wrapping_add(1);
-                    all.cause = cause.number();
-                    all.place = place;
+                    all.last = Some((cause, place));
                 }
             }
         }
@@ -61,11 +62,11 @@ mod tests {
         payload
     }
 
-    // How many parts a message of some bytes is cut into in 1X, and how long each is; 255 where there is none.
-    fn cut_in_1x(length: usize) -> Result<(usize, [usize; 4]), Refusal> {
+    // How many parts a message of some bytes is cut into in 1X, and how long each is.
+    fn cut_in_1x(length: usize) -> Result<(usize, [Option<usize>; 4]), Refusal> {
         let message = [7; 80];
         let sending = Sending::cut(1, 0, message.get(..length).unwrap_or(&[]), Room::OneX)?;
-        let lengths = [0, 1, 2, 3].map(|i| sending.part(i).map_or(255, |part| part.len()));
+        let lengths = [0, 1, 2, 3].map(|i| sending.part(i).map(|part| part.len()));
         Ok((sending.parts(), lengths))
     }
 
@@ -86,15 +87,15 @@ mod tests {
     // 21; 21 + 1 for 22; 21 + 17 for 38; 21 + 18 + 0 for 39.
     #[test]
     fn cuts_in_1x(rt: HostRuntime) -> Result<(), Fail> {
-        assert_eq!(rt; cut_in_1x(21)?, (1, [21, 255, 255, 255]));
-        assert_eq!(rt; cut_in_1x(22)?, (2, [21, 1, 255, 255]));
+        assert_eq!(rt; cut_in_1x(21)?, (1, [Some(21), None, None, None]));
+        assert_eq!(rt; cut_in_1x(22)?, (2, [Some(21), Some(1), None, None]));
         Ok(())
     }
 
     #[test]
     fn cuts_at_the_edge(rt: HostRuntime) -> Result<(), Fail> {
-        assert_eq!(rt; cut_in_1x(38)?, (2, [21, 17, 255, 255]));
-        assert_eq!(rt; cut_in_1x(39)?, (3, [21, 18, 0, 255]));
+        assert_eq!(rt; cut_in_1x(38)?, (2, [Some(21), Some(17), None, None]));
+        assert_eq!(rt; cut_in_1x(39)?, (3, [Some(21), Some(18), Some(0), None]));
         Ok(())
     }
 
@@ -113,11 +114,11 @@ mod tests {
     fn cause_1(rt: HostRuntime) {
         assert_eq!(rt;
             walk_over(&[0xEB, 0x52, 1, 4, 0, 0, 0, 0, 0]),
-            Seen::new(0, 1, 1, 2)
+            Seen::new(0, 1, Cause::Torn, 2)
         );
         let far = walk_over(&[0xEB, 0x52, 1, 6, 0, 0, 0, 0, 0]);
-        assert_eq!(rt; far.cause, 1);
-        assert_eq!(rt; walk_over(&[0xEB, 0x52, 1]).cause, 1);
+        assert_eq!(rt; far.last, Some((Cause::Torn, 2)));
+        assert_eq!(rt; walk_over(&[0xEB, 0x52, 1]).last, Some((Cause::Torn, 2)));
     }
 
     // A wrong CRC_32 finishes the line: the block behind it is not read.
@@ -125,7 +126,7 @@ mod tests {
     fn cause_2(rt: HostRuntime) {
         assert_eq!(rt;
             walk_over(&two_blocks(&[1, 5, 0, 1, 2, 3, 4], &bare_block(2, 0))),
-            Seen::new(0, 1, 2, 2)
+            Seen::new(0, 1, Cause::Crc, 2)
         );
     }
 
@@ -134,7 +135,7 @@ mod tests {
     fn cause_3(rt: HostRuntime) {
         assert_eq!(rt;
             walk_over(&two_blocks(&bare_block(1, 0x04), &bare_block(2, 0))),
-            Seen::new(1, 1, 3, 2)
+            Seen::new(1, 1, Cause::Part, 2)
         );
     }
 
@@ -143,7 +144,7 @@ mod tests {
     fn cause_4(rt: HostRuntime) {
         assert_eq!(rt;
             walk_over(&two_blocks(&bare_block(1, 0), &bare_block(2, 0x05))),
-            Seen::new(1, 1, 4, 9)
+            Seen::new(1, 1, Cause::Short, 9)
         );
     }
 
