@@ -14,6 +14,7 @@ use twox::two_x::TwoX;
 // What reading a black line of so many samples answers.
 fn black(count: usize) -> Result<Option<usize>, Refusal> {
     let system = one_else_two(Depth::Eight);
+    // the longest that is tested, used in part: lines are lent as slices, and this needs no allocator
     let line = [0u16; 4080];
     let mut found = [0u8; 60];
     system.read(&line[..count.min(4080)], &mut found)

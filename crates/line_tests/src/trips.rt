@@ -10,6 +10,7 @@ use twox::one_two::one_else_two;
 fn one(rt: &impl Abort, depth: Depth, n: usize, length: usize) -> Result<(), Fail> {
     let system = one_else_two(depth);
     let bytes = payload();
+    // the longest that is tested, used in part: lines are lent as slices, and this needs no allocator
     let mut line = [0u16; 3840];
     let count = 240 * n.min(16);
     let mut back = [0xaau8; 60];
