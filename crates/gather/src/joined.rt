@@ -5,6 +5,7 @@ ghost use Rattle.gather.specs.Keeping.{fronted};
 use std::marker::Model;
 
 // A message has at most 200 bytes; those behind the first `size` mean nothing.
+// In fixed memory: the library crates have no allocator, and no crate beneath them but std.
 #[derive(Drop)]
 pub(crate) struct Joined {
     bytes: [u8; 200],

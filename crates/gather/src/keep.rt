@@ -35,13 +35,13 @@ impl Fitting<'_> {
         usize::from(self.block.part)
     }
 
-    // Puts its part among the others, as it is held when it is read at a frame.
-    fn put_part(&self, parts: &mut [Option<Part>; 4], frame: u64)
-        ensures { parts.new ≡ slice_set parts.old self.now.block.part (Some (record { size = length self.now.block.body.now; frame = frame; check = self.now.block.check })) }
+    // Puts its part among the others.
+    fn put_part(&self, parts: &mut [Option<Part>; 4])
+        ensures { parts.new ≡ slice_set parts.old self.now.block.part (Some (record { size = length self.now.block.body.now; frame = self.now.frame; check = self.now.block.check })) }
     {
         parts[self.place()] = Some(Part {
             size: self.block.body.len(),
-            frame,
+            frame: self.frame,
             check: self.block.check,
         });
     }
@@ -57,8 +57,8 @@ impl Fitting<'_> {
 
 impl State {
     // Gathers for the block: what is of another version or last number is dropped, and what is too old.
-    fn renew(&mut self, fitting: &Fitting<'_>, frame: u64)
-        ensures { self.new ≡ renewed frame fitting.now.block.version fitting.now.block.last self.old }
+    fn renew(&mut self, fitting: &Fitting<'_>)
+        ensures { self.new ≡ renewed fitting.now.frame fitting.now.block.version fitting.now.block.last self.old }
     {
         match (self, fitting.block) {
             (
@@ -68,7 +68,7 @@ impl State {
                     ref mut parts,
                 },
                 b,
-            ) if version == b.version && last == b.last => drop_old(parts, frame),
+            ) if version == b.version && last == b.last => drop_old(parts, fitting.frame),
             (state, b) => *state = State::Gathering {
                 version: b.version,
                 last: b.last,
@@ -78,23 +78,23 @@ impl State {
     }
 
     // Notes the block's part as held.
-    fn note(&mut self, fitting: &Fitting<'_>, frame: u64)
-        ensures { self.new ≡ noted fitting.now.block.part (record { size = length fitting.now.block.body.now; frame = frame; check = fitting.now.block.check }) self.old }
+    fn note(&mut self, fitting: &Fitting<'_>)
+        ensures { self.new ≡ noted fitting.now.block.part (record { size = length fitting.now.block.body.now; frame = fitting.now.frame; check = fitting.now.block.check }) self.old }
     {
         if let State::Gathering { parts, .. } = self {
-            fitting.put_part(parts, frame);
+            fitting.put_part(parts);
         }
     }
 }
 
 impl Slot {
     // Keeps the block's part, once what the block makes stale is dropped.
-    pub(crate) fn keep(&mut self, fitting: &Fitting<'_>, frame: u64)
+    pub(crate) fn keep(&mut self, fitting: &Fitting<'_>)
         ensures number { self.new.number ≡ self.old.number }
-        ensures parts { model self.new ≡ with_part frame (means fitting.now.block) (model self.old) }
+        ensures parts { model self.new ≡ with_part fitting.now.frame (means fitting.now.block) (model self.old) }
     {
-        self.state.renew(fitting, frame);
-        self.state.note(fitting, frame);
+        self.state.renew(fitting);
+        self.state.note(fitting);
         fitting.put_body(&mut self.bytes[fitting.place()]);
     }
 }

@@ -25,6 +25,7 @@ pub enum State {
 // What is gathered for one watched number. The bytes of part k lie at the front of bytes[k], where the state holds it.
 // Two arrays and not one of pairs: by the same rule the state holds numbers alone, and the bytes lie beside it.
 // No ==: bytes that are left over from parts dropped mean nothing.
+// That a step leaves the number is said at each: it speaks of before and after, which no invariant can.
 #[derive(Clone, Copy, Debug)]
 pub struct Slot {
     pub(crate) number: u8,

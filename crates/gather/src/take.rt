@@ -10,11 +10,12 @@ use super::slot::{Arrival, Slot, State};
 use sending::{Block, LAST_MOST, PART_MOST, PARTS_MOST};
 
 impl<'a> Fitting<'a> {
-    // The block, if it can be gathered.
-    fn of(block: Block<'a>) -> Option<Fitting<'a>>
+    // The block that was read at a frame, if it can be gathered.
+    fn of(block: Block<'a>, frame: u64) -> Option<Fitting<'a>>
         ensures some { is_some result ≡ fits_slot (means block.entry) }
-        ensures same { IfSome result (λ fitting. fitting.block ≡ block.entry) }
+        ensures same { IfSome result (λ fitting. (fitting.block ≡ block.entry) × (fitting.frame ≡ frame)) }
     {
+        // said at each place: one line, and no plainer as a function that crates share
         let is_last_of_several = block.part == block.last && block.last != 0;
         let most = if is_last_of_several {
             LAST_MOST
@@ -25,7 +26,7 @@ impl<'a> Fitting<'a> {
             && usize::from(block.last) < PARTS_MOST
             && block.body.len() <= most
         {
-            Some(Fitting { block })
+            Some(Fitting { block, frame })
         } else {
             None
         }
@@ -55,9 +56,9 @@ impl Slot {
         ensures next { model self.new ≡ served_slot frame (means block.entry) (model self.old) }
         ensures same { self.new.number ≡ self.old.number }
     {
-        match Fitting::of(block) {
+        match Fitting::of(block, frame) {
             Some(fitting) => {
-                self.keep(&fitting, frame);
+                self.keep(&fitting);
                 self.finish(out)
             }
             None => Arrival::Unfit,

@@ -10,8 +10,8 @@ invariant_of-self c =
     let old = c.args.self.now in
     let part = c.args.fitting.now in
     record {
-      few = few_kept c.args.frame b old.state _ _ _ part.few c.renew.ensures c.note.ensures;
-      four = four_kept c.args.frame b old.state _ _ _ old.four c.renew.ensures c.note.ensures;
+      few = few_kept part.frame b old.state _ _ _ part.few c.renew.ensures c.note.ensures;
+      four = four_kept part.frame b old.state _ _ _ old.four c.renew.ensures c.note.ensures;
     }
 
 pub returns : goal.returns
@@ -26,5 +26,5 @@ returns c =
       number = refl;
       parts =
           ap (λ (k : ℕ). slot_in c.note.new.self (set old.bytes k c.put_body.new.bytes)) c.place.ensures.place
-          ∙ kept_is c.args.frame b old.bytes old.state c.renew.new.self c.note.new.self _ c.put_body.new.bytes within four refl fitting.fits c.put_body.ensures c.renew.ensures old.four c.note.ensures;
+          ∙ kept_is fitting.frame b old.bytes old.state c.renew.new.self c.note.new.self _ c.put_body.new.bytes within four refl fitting.fits c.put_body.ensures c.renew.ensures old.four c.note.ensures;
     }
