@@ -6,11 +6,11 @@ ghost use Rattle.gather.specs.Serving.{arrival, reply, written, meant, Short, ne
 
 use super::slot::Arrival;
 use super::table::Table;
-use sending::Block;
+use sending::{Block, MESSAGE_MOST};
 
 impl Table {
     // Takes a block that was read at a frame. A message that it completes is written at the front of `out`.
-    pub fn arrive(&mut self, frame: u64, block: &Block<'_>, out: &mut [u8; 200]) -> Arrival
+    pub fn arrive(&mut self, frame: u64, block: &Block<'_>, out: &mut [u8; MESSAGE_MOST]) -> Arrival
         ensures answer { result ≡ arrival (watching self.old) frame (means block.now) (gathered self.old) }
         ensures message { meant (means block.now) result out.new ≡ reply (watching self.old) frame (means block.now) (gathered self.old) }
         ensures short { Short result }

@@ -8,7 +8,7 @@ ghost use Rattle.gather.specs.Keeping.{verdict, verdict_out};
 use super::joined::Joined;
 use super::slot::{Arrival, Part, Slot, State};
 use crc::crc32;
-use sending::{LAST_MOST, PART_MOST};
+use sending::{LAST_MOST, MESSAGE_MOST, PART_MOST};
 
 // The most bytes that are kept of part k.
 fn part_most(k: usize) -> usize
@@ -19,7 +19,7 @@ fn part_most(k: usize) -> usize
 
 impl Part {
     // The bytes of part k.
-    fn body<'a>(&self, k: usize, bytes: &'a [u8; 51]) -> &'a [u8]
+    fn body<'a>(&self, k: usize, bytes: &'a [u8; PART_MOST]) -> &'a [u8]
         ensures value { result.now ≡ take (min self.now.size (room k)) bytes.now }
         ensures short { length result.now ≤ room k }
     {
@@ -73,7 +73,7 @@ impl Slot {
     }
 
     // Joins parts that are all held, unless they are several and fail the message CRC.
-    pub(crate) fn judge(&self, out: &mut [u8; 200]) -> Arrival
+    pub(crate) fn judge(&self, out: &mut [u8; MESSAGE_MOST]) -> Arrival
         ensures answer { result ≡ verdict (model self.now).last (model self.now).held }
         ensures out { out.new ≡ verdict_out (model self.now).last (model self.now).held out.old }
     {

@@ -2,13 +2,14 @@
 ghost use Rattle.std.specs.Prelude.{◌≡◌, ℕ, ◌+◌, ◌≤◌, List, [], ◌++◌, length, take};
 ghost use Rattle.gather.specs.Keeping.{fronted};
 
+use sending::MESSAGE_MOST;
 use std::marker::Model;
 
 // A message has at most 200 bytes; those behind the first `size` mean nothing.
 // In fixed memory: the library crates have no allocator, and no crate beneath them but std.
 #[derive(Drop)]
 pub(crate) struct Joined {
-    bytes: [u8; 200],
+    bytes: [u8; MESSAGE_MOST],
     size: usize,
 }
 
@@ -26,7 +27,7 @@ impl Joined {
         ensures { result ≡ [] }
     {
         Joined {
-            bytes: [0; 200],
+            bytes: [0; MESSAGE_MOST],
             size: 0,
         }
     }
@@ -49,7 +50,7 @@ impl Joined {
     }
 
     // Writes the bytes at the front of `out`, and answers how many they are.
-    pub(crate) fn put(&self, out: &mut [u8; 200]) -> usize
+    pub(crate) fn put(&self, out: &mut [u8; MESSAGE_MOST]) -> usize
         ensures answer { result ≡ length self.now }
         ensures out { out.new ≡ fronted self.now out.old }
     {

@@ -6,6 +6,7 @@ ghost use Rattle.gather.specs.Keeping.{fresh_part, renewed, noted, with_part};
 
 use super::fitting::Fitting;
 use super::slot::{Part, Slot, State};
+use sending::{PART_MOST, PARTS_MOST};
 
 // A part is dropped once it is older than this, in frames.
 const AGE_MOST: u64 = 255;
@@ -18,7 +19,7 @@ fn still_fresh(part: Option<Part>, frame: u64) -> Option<Part>
 }
 
 // Drops each part that is too old.
-fn drop_old(parts: &mut [Option<Part>; 4], frame: u64)
+fn drop_old(parts: &mut [Option<Part>; PARTS_MOST], frame: u64)
     ensures { parts.new ≡ map (fresh_part frame) parts.old }
 {
     for part in parts.iter_mut() {
@@ -36,7 +37,7 @@ impl Fitting<'_> {
     }
 
     // Puts its part among the others.
-    fn put_part(&self, parts: &mut [Option<Part>; 4])
+    fn put_part(&self, parts: &mut [Option<Part>; PARTS_MOST])
         ensures { parts.new ≡ slice_set parts.old self.now.block.part (Some (record { size = length self.now.block.body.now; frame = self.now.frame; check = self.now.block.check })) }
     {
         parts[self.place()] = Some(Part {
@@ -47,7 +48,7 @@ impl Fitting<'_> {
     }
 
     // Writes its body over the first bytes.
-    fn put_body(&self, bytes: &mut [u8; 51])
+    fn put_body(&self, bytes: &mut [u8; PART_MOST])
         ensures { take (length self.now.block.body.now) bytes.new ≡ self.now.block.body.now }
     {
         let body = self.block.body;
@@ -72,7 +73,7 @@ impl State {
             (state, b) => *state = State::Gathering {
                 version: b.version,
                 last: b.last,
-                parts: [None; 4],
+                parts: [None; PARTS_MOST],
             },
         }
     }

@@ -2,6 +2,8 @@
 ghost use Rattle.std.specs.Prelude.{◌≡◌, ◌≤◌, length};
 ghost use Rattle.gather.specs.States.{last_in, parts_in};
 
+use sending::{PART_MOST, PARTS_MOST};
+
 // A part that is held: how many bytes it has, the frame in which it was read, and the message CRC where its block carries it.
 #[derive(Clone, Copy, PartialEq, Eq, Debug)]
 pub struct Part {
@@ -18,7 +20,7 @@ pub enum State {
     Gathering {
         version: u8,
         last: u8,
-        parts: [Option<Part>; 4],
+        parts: [Option<Part>; PARTS_MOST],
     },
 }
 
@@ -30,7 +32,7 @@ pub enum State {
 pub struct Slot {
     pub(crate) number: u8,
     pub(crate) state: State,
-    pub(crate) bytes: [[u8; 51]; 4],
+    pub(crate) bytes: [[u8; PART_MOST]; PARTS_MOST],
     ghost few: { last_in state ≤ 3 },
     ghost four: { length (parts_in state) ≡ 4 },
 }

@@ -7,7 +7,7 @@ ghost use Rattle.gather.specs.Keeping.{ended, ended_out, emptied, served, served
 
 use super::fitting::Fitting;
 use super::slot::{Arrival, Slot, State};
-use sending::{Block, LAST_MOST, PART_MOST, PARTS_MOST};
+use sending::{Block, LAST_MOST, MESSAGE_MOST, PART_MOST, PARTS_MOST};
 
 impl<'a> Fitting<'a> {
     // The block that was read at a frame, if it can be gathered.
@@ -35,7 +35,7 @@ impl<'a> Fitting<'a> {
 
 impl Slot {
     // Joins the parts and drops them, where all are held.
-    fn finish(&mut self, out: &mut [u8; 200]) -> Arrival
+    fn finish(&mut self, out: &mut [u8; MESSAGE_MOST]) -> Arrival
         ensures answer { result ≡ ended (model self.old) }
         ensures out { out.new ≡ ended_out (model self.old) out.old }
         ensures next { model self.new ≡ emptied (model self.old) }
@@ -50,7 +50,12 @@ impl Slot {
     }
 
     // Takes a block at a frame, unless it can't be gathered. A message is written at the front of `out`.
-    pub(crate) fn serve(&mut self, block: Block<'_>, frame: u64, out: &mut [u8; 200]) -> Arrival
+    pub(crate) fn serve(
+        &mut self,
+        block: Block<'_>,
+        frame: u64,
+        out: &mut [u8; MESSAGE_MOST],
+    ) -> Arrival
         ensures answer { result ≡ served frame (means block.entry) (model self.old) }
         ensures out { out.new ≡ served_out frame (means block.entry) (model self.old) out.old }
         ensures next { model self.new ≡ served_slot frame (means block.entry) (model self.old) }

@@ -8,6 +8,7 @@ ghost use Rattle.gather.specs.Serving.{empty, shown, opened, Taken};
 use super::slot::{Slot, State};
 use super::table::Table;
 use refusal::Refusal;
+use sending::{PART_MOST, PARTS_MOST};
 
 // The most numbers that are watched.
 const WATCH_MOST: usize = 8;
@@ -40,7 +41,7 @@ impl Slot {
         Slot {
             number,
             state: State::Empty,
-            bytes: [[0; 51]; 4],
+            bytes: [[0; PART_MOST]; PARTS_MOST],
         }
     }
 
