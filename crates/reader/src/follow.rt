@@ -10,11 +10,12 @@ ghost use Rattle.reader.specs.Stands.{Stands, Room};
 use super::progress::Progress;
 use super::reader::Memory;
 use gather::Arrival;
-use sending::Block;
+use sending::{Block, MESSAGE_MOST};
 use tray::{Cause, Fault};
 use walk::Entry;
 
 // The tray and the progress in it stay two arguments: a struct that holds a `&mut` owes a clause on whose it is at every function.
+// What a step leaves as it was is said at each: it speaks of before and after, which no invariant can.
 impl Memory {
     // Brings a block that was read to the table, and tells what came of it.
     fn follow_block(
@@ -28,7 +29,8 @@ impl Memory {
         ensures next { (old : List ℕ) (p : Followed) → Room old (read place (means block.now)) p → Stands old tray.old progress.old (gathered self.old.table) p → Stands old tray.new progress.new (gathered self.new.table) (follow (watching self.old.table) self.old.floor (read place (means block.now)) p) }
         ensures same { (watching self.new.table ≡ watching self.old.table) × (self.new.floor ≡ self.old.floor) }
     {
-        let mut joined = [0u8; 200];
+        // in fixed memory: nothing here allocates
+        let mut joined = [0u8; MESSAGE_MOST];
         match self.table.arrive(self.floor, block, &mut joined) {
             Arrival::NotWatched => progress.skipped = progress.skipped.saturating_add(1),
             Arrival::Message { length } => progress.hand_over(

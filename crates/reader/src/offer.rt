@@ -35,6 +35,7 @@ impl<L: LineSystem> Reader<L> {
         ensures unchanged { (e : Refusal) → result ≡ Err e → self.new ≡ self.old }
         ensures keeps_the_promise { KeepsThePromise L.LineSystem self.old (Offered frame line.now tray.old) (outcome_of result tray.new) (state self.new) }
     {
+        // in fixed memory: nothing here allocates
         let mut payload = [0u8; 60];
         let found = self.system.read(line, &mut payload)?;
         call_test(self.memory.floor, frame, tray.len())?;

@@ -5,7 +5,7 @@ use system::system::LineSystem;
 // What a taken offer answers.
 #[derive(Clone, Copy, PartialEq, Eq, Debug)]
 pub struct Answer {
-    // the length of the payload found, 0 where no run-in was found
+    // the length of the payload found, 0 where no run-in was found: a number, as docs/READER.md tells it, and no payload is empty
     pub length: usize,
     // how many bytes of the tray are used
     pub used: usize,

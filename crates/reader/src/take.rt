@@ -26,6 +26,7 @@ impl Progress {
 
 impl Memory {
     // Takes a line in which so many bytes of the payload buffer were found, or no run-in.
+    // Length and buffer stay two arguments: they are what a line system's `read` answers and leaves.
     pub(crate) fn take_line(
         &mut self,
         found: Option<usize>,
