@@ -13,6 +13,7 @@ use line::depth::Depth;
 use reader::Answer;
 use refusal::Refusal;
 
+// Line, rounds and tray travel side by side, since they come so from C.
 // Offers a line so many times to a new reader of a depth.
 fn offer_to_new(depth: Depth, line: &[u16], rounds: u32, tray: &mut [u8]) -> Result<Answer, Refusal>
     ensures answer { answers.told result ≡ (after (measured depth) new line.now tray.old rounds).last }
