@@ -1,6 +1,7 @@
 // The identifier of a content.
-ghost use Rattle.std.specs.Prelude.{◌≡◌};
+ghost use Rattle.std.specs.Prelude.{◌≡◌, Some};
 ghost use Rattle.showing.specs.Identifiers.{identifier_of};
+ghost use Rattle.showing.specs.Texts.{identifier_text};
 
 use crate::printed::{Hex, Text};
 use body::{AD_ID_TYPE, Content, EIDR_TYPE};
@@ -27,6 +28,8 @@ impl<'a> From<Content<'a>> for Identifier<'a> {
 }
 
 impl fmt::Display for Identifier<'_> {
+    ghost output = { λ identifier. Some (identifier_text identifier) };
+
     fn fmt<W: fmt::Write>(&self, f: &mut fmt::Formatter<W>) -> fmt::Result {
         match self {
             Identifier::Eidr(id) => write!(f, "EIDR{}", Hex(id)),

@@ -1,5 +1,5 @@
 -- What digits write.
-use Rattle.std.specs.Prelude.{ℕ, ◌+◌, ◌-◌, ◌*◌, cond, List, [], ◌∷◌, Some, None, Option, Ok, Err, Result, nat_lt, ◌≡◌}
+use Rattle.std.specs.Prelude.{ℕ, ◌+◌, ◌-◌, ◌*◌, cond, List, [], ◌∷◌, Some, None, Option, Ok, Err, Result, nat_lt, ◌≡◌, ◌≢◌, codes}
 use Rattle.hex.specs.declared.error.FromHexError.{FromHexError}
 use Rattle.hex.specs.declared.error.FromHexError.TheVariants.{InvalidHexCharacter, OddLength, InvalidStringLength, OutOfMemory}
 use Rattle.words.specs.declared.stop.Stop.{Stop}
@@ -37,3 +37,9 @@ abbrev pub NumberRead : {T E : Type 0} → (ℕ → Result T E → Type 0) → O
 NumberRead gives None r = r ≡ Err What
 NumberRead gives (Some n) (Ok x) = gives n (Ok x)
 NumberRead {E = E} gives (Some n) (Err e) = (e ≡ What) × ((why : E) × gives n (Err why))
+
+-- a result of a word that is none for `-` alone, and else what may be read of the word
+abbrev pub OrNone : {T : Type 0} → List ℕ → (Result T Stop → Type 0) → Result (Option T) Stop → Type 0
+OrNone word Read (Ok None) = word ≡ codes "-"
+OrNone word Read (Ok (Some x)) = (word ≢ codes "-") × Read (Ok x)
+OrNone word Read (Err e) = (word ≢ codes "-") × Read (Err e)

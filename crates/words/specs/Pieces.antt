@@ -1,5 +1,5 @@
 -- Bytes cut at a separator.
-use Rattle.std.specs.Prelude.{◌≡◌, ◌≢◌, ℕ, List, ◌∷◌, ◌++◌, Some, None, Option, IsSomeAnd}
+use Rattle.std.specs.Prelude.{◌≡◌, ◌≢◌, ℕ, List, ◌∷◌, ◌++◌, Some, None, Option, IsSomeAnd, MatchOption}
 use Rattle.std.specs.List.{All}
 
 -- a piece, and what is left behind its separator; where none follows, the piece is all
@@ -11,3 +11,7 @@ Cut separator bytes piece (Some rest) = bytes ≡ piece ++ separator ∷ rest
 abbrev pub Taken : ℕ → Option (List ℕ) → Option (List ℕ) → Option (List ℕ) → Type 0
 Taken separator None piece rest = (piece ≡ None) × (rest ≡ None)
 Taken separator (Some bytes) piece rest = IsSomeAnd piece (λ p. All (λ c. c ≢ separator) p × Cut separator bytes p rest)
+
+-- a call that takes the next piece, if there is one: what holds where there is none, and what of the piece
+abbrev pub Takes : ℕ → Option (List ℕ) → Option (List ℕ) → Type 0 → (List ℕ → Type 0) → Type 0
+Takes separator old new Nothing Says = (piece : Option (List ℕ)) × Taken separator old piece new × MatchOption piece Nothing Says

@@ -1,10 +1,11 @@
 // The words of a line, taken one by one.
-ghost use Rattle.std.specs.Prelude.{◌≡◌, ℕ, ◌^◌, ◌<◌, ◌≤◌, Some, Ok, Err, is_some, if◌then◌else◌, IfSome, IfOk, IfErr};
+ghost use Rattle.std.specs.Prelude.{◌≡◌, ◌≢◌, ◌⊎◌, ℕ, ◌-◌, ◌^◌, ◌<◌, ◌≤◌, [], codes, Some, Ok, Err, is_some, if◌then◌else◌, IfSome, IfOk, IfErr, IsErr};
 ghost use Rattle.std.specs.Option.{option_copied, ok_or};
 ghost use Rattle.std.specs.Result.{result_ok};
-ghost use Rattle.words.specs.declared.stop.Stop.TheVariants.{What};
-ghost use Rattle.words.specs.Digits.{number_of};
-ghost use Rattle.words.specs.Pieces.{Taken};
+ghost use Rattle.hex.specs.Hex.{decode_of};
+ghost use Rattle.words.specs.declared.stop.Stop.TheVariants.{What, Memory};
+ghost use Rattle.words.specs.Digits.{number_of, NumberRead, OrNone};
+ghost use Rattle.words.specs.Pieces.{Taken, Takes};
 
 use crate::decimal::{read_decimal, read_number};
 use crate::hexadecimal::read_hex;
@@ -68,7 +69,9 @@ impl<'a> Words<'a> {
 
     // A number, at most so much.
     pub fn number(&mut self, most: u64) -> Result<u64, Stop>
-        ensures { IfOk result (λ value. value ≤ most) }
+        ensures most { IfOk result (λ value. value ≤ most) }
+        ensures answer { Takes self.old.pieces.separator (option_copied self.old.pieces.rest) (option_copied self.new.pieces.rest) (result ≡ Err What) (λ w. result ≡ ok_or (number_of most w) What) }
+        ensures separator { self.new.pieces.separator ≡ self.old.pieces.separator }
     {
         read_decimal(self.word()?, most).ok_or(Stop::What)
     }
@@ -78,13 +81,17 @@ impl<'a> Words<'a> {
     where
         T::Error: Drop,
         ensures most { IfOk result (λ x. (n : ℕ) × (n < 2 ^ 64) × T.TryFrom.try_from_gives n (Ok x)) }
+        ensures answer { Takes self.old.pieces.separator (option_copied self.old.pieces.rest) (option_copied self.new.pieces.rest) (result ≡ Err What) (λ w. NumberRead T.TryFrom.try_from_gives (number_of (2 ^ 64 - 1) w) result) }
+        ensures separator { self.new.pieces.separator ≡ self.old.pieces.separator }
     {
         read_number(self.word()?)
     }
 
     // A number at most so much, or none for `-`.
     pub fn optional(&mut self, most: u64) -> Result<Option<u64>, Stop>
-        ensures { IfOk result (λ value. IfSome value (λ n. n ≤ most)) }
+        ensures most { IfOk result (λ value. IfSome value (λ n. n ≤ most)) }
+        ensures answer { Takes self.old.pieces.separator (option_copied self.old.pieces.rest) (option_copied self.new.pieces.rest) (result ≡ Err What) (λ w. OrNone w (λ r. r ≡ ok_or (number_of most w) What) result) }
+        ensures separator { self.new.pieces.separator ≡ self.old.pieces.separator }
     {
         match self.word()? {
             b"-" => Ok(None),
@@ -97,6 +104,8 @@ impl<'a> Words<'a> {
     where
         T::Error: Drop,
         ensures most { IfOk result (λ value. IfSome value (λ x. (n : ℕ) × (n < 2 ^ 64) × T.TryFrom.try_from_gives n (Ok x))) }
+        ensures answer { Takes self.old.pieces.separator (option_copied self.old.pieces.rest) (option_copied self.new.pieces.rest) (result ≡ Err What) (λ w. OrNone w (NumberRead T.TryFrom.try_from_gives (number_of (2 ^ 64 - 1) w)) result) }
+        ensures separator { self.new.pieces.separator ≡ self.old.pieces.separator }
     {
         match self.word()? {
             b"-" => Ok(None),
@@ -107,12 +116,17 @@ impl<'a> Words<'a> {
     // A count, a length or an index.
     pub fn count(&mut self) -> Result<usize, Stop>
         ensures most { IfOk result (λ count. count ≤ 1000000) }
+        ensures answer { Takes self.old.pieces.separator (option_copied self.old.pieces.rest) (option_copied self.new.pieces.rest) (result ≡ Err What) (λ w. result ≡ ok_or (number_of 1000000 w) What) }
+        ensures separator { self.new.pieces.separator ≡ self.old.pieces.separator }
     {
         read_count(self.word()?)
     }
 
     // A count, or another where no word is left.
-    pub fn count_or(&mut self, other: usize) -> Result<usize, Stop> {
+    pub fn count_or(&mut self, other: usize) -> Result<usize, Stop>
+        ensures answer { Takes self.old.pieces.separator (option_copied self.old.pieces.rest) (option_copied self.new.pieces.rest) (result ≡ Ok other) (λ w. result ≡ ok_or (number_of 1000000 w) What) }
+        ensures separator { self.new.pieces.separator ≡ self.old.pieces.separator }
+    {
         match self.pieces.next() {
             Some(word) => read_count(word),
             None => Ok(other),
@@ -127,7 +141,10 @@ impl<'a> Words<'a> {
     }
 
     // Hexadecimal bytes.
-    pub fn hex(&mut self, heap: Global) -> Result<Vec<u8>, Stop> {
+    pub fn hex(&mut self, heap: Global) -> Result<Vec<u8>, Stop>
+        ensures answer { Takes self.old.pieces.separator (option_copied self.old.pieces.rest) (option_copied self.new.pieces.rest) (result ≡ Err What) (λ w. IfOk result (λ v. (w ≡ codes "-") × (v.items ≡ []) ⊎ (decode_of w ≡ Ok v.items)) × IfErr result (λ e. (e ≡ Memory) ⊎ (e ≡ What) × (w ≢ codes "-") × IsErr (decode_of w))) }
+        ensures separator { self.new.pieces.separator ≡ self.old.pieces.separator }
+    {
         read_hex(heap, self.word()?)
     }
 }
