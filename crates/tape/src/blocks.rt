@@ -3,7 +3,7 @@ use sending::{Room, Sending};
 use showing::{Head, Hex, PAYLOAD_LENGTH};
 use std::fmt;
 use walk::{Entry, Walk};
-use wire::write_block;
+use wire::{block_length, write_block};
 
 const MESSAGE: &[u8] = b"reference tape 42, spot 17, side A ...";
 
@@ -36,9 +36,8 @@ fn show_blocks(rt: &HostRuntime, sending: &Sending) -> anyhow::Result<Vec<u8>> {
     let mut payload = Vec::from_slice(rt.alloc(), &[0xeb, 0x52])?;
     // the number is the part's own, and no index
     for part in (0..4).take(sending.parts()) {
-        let mut block = vec![in rt.alloc(); 0; PAYLOAD_LENGTH]?;
-        let end = write_block(sending, part, &mut block, 0)?;
-        block.truncate(end);
+        let mut block = vec![in rt.alloc(); 0; block_length(sending, part)?]?;
+        let _end = write_block(sending, part, &mut block, 0)?;
         let place = payload.len();
         let bytes = Hex(&block);
         println!(rt; "block     part {part} place {place:>2} bytes{bytes}")?;
@@ -51,12 +50,14 @@ fn show_blocks(rt: &HostRuntime, sending: &Sending) -> anyhow::Result<Vec<u8>> {
 // Cuts a message, writes its blocks, damages one, and walks the payload.
 pub fn show(rt: &HostRuntime) -> anyhow::Result<()> {
     let sending = Sending::cut(2, 3, MESSAGE, Room::OneX)?;
-    let number = sending.number();
-    let version = sending.version();
-    let parts = sending.parts();
-    let length = sending.message().len();
     println!(rt; "Blocks: a message cut, its blocks written, one damaged, and the payload walked")?;
-    println!(rt; "sending   number {number} version {version} parts {parts} bytes {length}")?;
+    println!(rt;
+        "sending   number {} version {} parts {} bytes {}",
+        sending.number(),
+        sending.version(),
+        sending.parts(),
+        sending.message().len()
+    )?;
     let mut payload = show_blocks(rt, &sending)?;
     if let Some(byte) = payload.get_mut(40) {
         *byte ^= 0x10;

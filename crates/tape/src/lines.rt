@@ -19,6 +19,7 @@ fn roughen(line: &mut [u16], e: u16, most: u16) {
 
 // Prints what is read in a line.
 fn report(rt: &HostRuntime, depth: Depth, line: &[u16]) -> io::Result<()> {
+    // lent to `read`, which allocates nothing and answers how much it wrote
     let mut found = [0; PAYLOAD_LENGTH];
     match one_else_two(depth).read(line, &mut found) {
         Ok(Some(length)) => {
