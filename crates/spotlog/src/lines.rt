@@ -11,6 +11,7 @@ use twox::one_two::one_else_two;
 fn trip(depth: Depth, payload: &[u8], e: u16) -> Result<bool, Refusal> {
     let system = one_else_two(depth);
     let mut line = [0; COLUMNS];
+    // lent to `read`, which allocates nothing and answers how much it wrote
     let mut found = [0; PAYLOAD_LENGTH];
     system.draw(payload, &mut line)?;
     brighten(&mut line, e, 256 * depth.unit() - 1);

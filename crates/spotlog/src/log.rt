@@ -5,6 +5,7 @@ use std::fmt::Display;
 use std::io;
 use walk::{Entry, Walk};
 
+// The system and the line stay beside it: most of what is printed needs neither.
 #[derive(Clone, Copy)]
 pub struct Log<'a> {
     pub rt: &'a HostRuntime,

@@ -48,6 +48,7 @@ pub fn calls<'a>(
 
 // Prints what was sighted in a taken line, and how it was answered.
 fn print_taken(log: Log, system: &impl LineSystem, line: &[u16], answer: Answer) -> io::Result<()> {
+    // lent to `read`, which allocates nothing and answers how much it wrote
     let mut payload = [0; PAYLOAD_LENGTH];
     if let Ok(Some(length)) = system.read(line, &mut payload) {
         log.blocks("sighted", &payload[..length.min(PAYLOAD_LENGTH)])?;

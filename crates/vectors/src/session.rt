@@ -43,6 +43,7 @@ impl Session {
         Ok(())
     }
 
+    // A match, and no table of closures: the cases differ in what they need of the session, if anything.
     fn answer(&mut self, heap: Global, line: &[u8]) -> Result<String, Stop> {
         let mut words = Words::new(line);
         let name = words.word()?;
