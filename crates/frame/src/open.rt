@@ -5,7 +5,8 @@ ghost use Rattle.frame.specs.Groups.{filled};
 ghost use Rattle.frame.specs.Marking.{opening};
 
 use super::frame::{Fill, OpenFrame, SealedFrame};
-use super::limits::{FIRST_MARK, MEMORY, PAYLOAD_LEAST, PAYLOAD_MOST, RUN_IN_FIRST, RUN_IN_SECOND};
+use super::limits::{FIRST_MARK, MEMORY, PAYLOAD_LEAST, PAYLOAD_MOST};
+use line::checks::RUN_IN;
 use refusal::Refusal;
 
 impl OpenFrame {
@@ -18,8 +19,7 @@ impl OpenFrame {
             return Err(Refusal::Payload);
         }
         let mut bytes = [0; MEMORY];
-        bytes[0] = RUN_IN_FIRST;
-        bytes[1] = RUN_IN_SECOND;
+        bytes[..FIRST_MARK].copy_from_slice(&RUN_IN);
         Ok(OpenFrame {
             bytes,
             fill: Fill {
