@@ -91,7 +91,11 @@ fn read_time(words: &mut Words) -> Result<Option<Time>, Stop> {
 
 // BSID MAJOR MINOR, none where BSID is.
 fn read_channel(words: &mut Words) -> Result<Option<Channel>, Stop> {
-    match (words.optional_value()?, words.optional_value()?, words.optional_value()?) {
+    match (
+        words.optional_value()?,
+        words.optional_value()?,
+        words.optional_value()?,
+    ) {
         (Some(bsid), Some(major), Some(minor)) => Ok(Some(Channel { bsid, major, minor })),
         (Some(_), _, _) => Err(Stop::What),
         (None, _, _) => Ok(None),
