@@ -10,6 +10,7 @@ pub enum Cause {
 }
 
 impl Cause {
+    // No TryFrom: the error would be a type of its own, since only the tray's reader knows the place that is refused.
     // The cause at one of the two layers by its number, none where the layer has no such cause.
     pub(crate) fn at(layer: u8, number: u8) -> Option<Cause>
         requires layer { (1 ≤ layer) × (layer ≤ 2) }
@@ -25,6 +26,7 @@ impl Cause {
         }
     }
 
+    // A table, and no `as`: a case has a field.
     // The number of the layer: 1 block, 2 message.
     pub fn layer(self) -> u8
         ensures answer { result ≡ (numbers self).0 }

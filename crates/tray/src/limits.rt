@@ -1,4 +1,5 @@
 // The numbers of the format.
+use sending::MESSAGE_MOST;
 
 // The bytes with which a tray suffices for every offer.
 pub const TRAY_LEAST: usize = 1630;
@@ -9,7 +10,7 @@ pub(crate) const ENTRIES_MOST: u8 = 9;
 // The bytes of a message before its own, and the most that its own are.
 pub(crate) const HEAD: usize = 3;
 
-pub(crate) const LENGTH_MOST: u8 = 200;
+pub(crate) const LENGTH_MOST: u8 = MESSAGE_MOST as u8;
 
 // The most faults that are kept.
 pub(crate) const FAULTS_MOST: usize = 9;

@@ -65,6 +65,7 @@ impl<'a> Iterator for Entries<'a> {
 
     fn next(&mut self) -> Option<Entry<'a>> {
         let bytes = self.bytes;
+        // No `or_else`: where it doesn't call its closure, it promises nothing of the faults that the closure borrows.
         match self.messages.give::<MessageKind>(bytes) {
             Some(message) => Some(message),
             None => self.faults.give::<FaultKind>(bytes),

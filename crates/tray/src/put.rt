@@ -7,6 +7,7 @@ use super::fault::{Fault, Faults};
 use super::limits::{HEAD, LENGTH_MOST};
 use buffers::lay;
 
+// Tray and place stay two arguments: a struct that holds a `&mut` owes a clause on whose it is at every function.
 // Whether so many bytes fit at a place of the tray.
 fn has_room(tray: &[u8], at: usize, size: usize) -> bool
     ensures { result ≡ nat_le (at + size) (length tray.now) }

@@ -12,6 +12,7 @@ use super::row::Kind;
 use refusal::Refusal;
 use sending::VERSION_MOST;
 
+// Tray and place stay two arguments: a refusal tells a place in the whole tray.
 // The byte at a place, where it lies in a range. Refused there.
 pub(crate) fn byte_at(tray: &[u8], place: usize, least: u8, most: u8) -> Result<u8, Refusal>
     ensures { result ≡ unless Tray (byte_fault least most place tray.now) (slice_index tray.now place) }
@@ -63,9 +64,7 @@ impl Kind for FaultKind {
     fn read<'a>(tray: &'a [u8], place: usize) -> Result<Entry<'a>, Refusal> {
         let layer = byte_at(tray, place, 1, LAYERS)?;
         let cause = byte_at(tray, place + 1, 1, 255)?;
-        let Some(cause) = Cause::at(layer, cause) else {
-            return Err(Refusal::Tray(place + 1));
-        };
+        let cause = Cause::at(layer, cause).ok_or(Refusal::Tray(place + 1))?;
         let number = byte_at(tray, place + 2, 1, 255)?;
         let at = byte_at(tray, place + 3, PLACE_LEAST, PLACE_MOST)?;
         Ok(Entry::Fault {
