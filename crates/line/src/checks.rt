@@ -43,6 +43,7 @@ fn largest_sample(line: &[u16]) -> u16
 }
 
 // How many samples from the first on are small enough for the depth.
+// Depth and samples stay two arguments: a line system holds its depth, and is lent samples alone.
 fn fitting(depth: Depth, line: &[u16]) -> usize
     ensures { result ≡ fitting depth line.now }
 {

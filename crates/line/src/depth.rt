@@ -7,9 +7,9 @@ use refusal::Refusal;
 // How many bits a sample has.
 #[derive(Clone, Copy, PartialEq, Eq, Debug)]
 pub enum Depth {
-    Eight,
-    Ten,
-    Twelve,
+    Eight = 8,
+    Ten = 10,
+    Twelve = 12,
 }
 
 // The depth of so many bits. All 32 bits of the number count: 264 is not taken for 8.
@@ -46,15 +46,11 @@ impl Depth {
         Depth::try_from(bits)
     }
 
-    // The number of bits: a table beside the other way's, since std derives no numbers of an enum.
+    // The number of bits.
     pub fn bits(&self) -> u8
         ensures answer { result ≡ depth_bits self.now }
     {
-        match *self {
-            Depth::Eight => 8,
-            Depth::Ten => 10,
-            Depth::Twelve => 12,
-        }
+        *self as u8
     }
 
     // The unit q in which levels are given, so that one rule serves all depths. A table too, since it says the three at a glance.

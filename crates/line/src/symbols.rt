@@ -5,6 +5,7 @@ ghost use Rattle.line.specs.Symbols.{weight, level_at, value_of};
 use crate::checks::{SYMBOLS, good_count};
 
 // What stands for the number of samples in a symbol; 0 where no line has so many samples.
+// No Option: levels and cuts are multiples of it, so 0 needs no case of its own.
 pub fn weight(count: usize) -> u32
     ensures answer { result ≡ weight count }
     ensures small { result ≤ 40 }

@@ -9,13 +9,13 @@ use sending::Block;
 #[derive(Clone, Copy, PartialEq, Eq, Debug)]
 pub enum Cause {
     // no count byte, a count under 5, or a block past the payload's end
-    Torn,
+    Torn = 1,
     // CRC_32 is wrong
-    Crc,
+    Crc = 2,
     // the part's number is above the last part's
-    Part,
+    Part = 3,
     // too short for the message CRC that must stand in it
-    Short,
+    Short = 4,
 }
 
 impl Cause {
@@ -23,12 +23,7 @@ impl Cause {
     pub fn number(self) -> u8
         ensures answer { result ≡ cause_number self }
     {
-        match self {
-            Cause::Torn => 1,
-            Cause::Crc => 2,
-            Cause::Part => 3,
-            Cause::Short => 4,
-        }
+        self as u8
     }
 
     // Whether it finishes the line: nothing then tells where a next block would begin.

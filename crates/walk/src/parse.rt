@@ -34,6 +34,7 @@ fn covered(rest: &[u8]) -> Result<&[u8], Cause>
 }
 
 // Whether the part is the last of several: its block carries the message CRC.
+// said at each place: one line, and no plainer as a function that crates share
 fn last_of_several(part: u8, last: u8) -> bool
     ensures { result ≡ (part == last && not (last == 0)) }
 {
