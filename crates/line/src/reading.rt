@@ -18,11 +18,13 @@ pub enum Cuts {
     Three([u32; 3]),
 }
 
-// Cuts as a list, with the number of bits of a symbol that is read by them.
+// A line, and the cuts that it is read by as a list, with the number of bits of a symbol.
 #[derive(Clone, Copy)]
 struct Scale<'a> {
+    line: &'a [u16],
     cuts: &'a [u32],
     bits: usize,
+    ghost count: { good_count (length line.now) ≡ true },
     ghost values: { (1 ≤ bits) × (bits ≤ 2) × (length cuts.now + 1 ≡ 2 ^ bits) },
 }
 
@@ -41,29 +43,27 @@ impl<'a> Scale<'a> {
         all as u8
     }
 
-    // Fills the payload with what the values of a line's symbols write.
-    fn fill(&self, line: &[u16], payload: &mut [u8])
-        requires count { good_count (length line.now) ≡ true }
+    // Fills the payload with what the values of the line's symbols write.
+    fn fill(&self, payload: &mut [u8])
         requires whole { length payload.old ≡ 30 * self.now.bits }
-        ensures { payload.new ≡ payload_of self.now.bits (λ k. value_of self.now.cuts.now (2 * level_at line.now k)) }
+        ensures { payload.new ≡ payload_of self.now.bits (λ k. value_of self.now.cuts.now (2 * level_at self.now.line.now k)) }
     {
-        let width = weight(line.len()) as usize;
+        let width = weight(self.line.len()) as usize;
         let size = 8 / self.bits * width;
         // by place: of what a `zip` with `iter_mut` writes, a proof knows nothing
         for (j, to) in payload.iter_mut().enumerate() {
-            *to = self.byte(&line[j * size..(j + 1) * size], width);
+            *to = self.byte(&self.line[j * size..(j + 1) * size], width);
         }
     }
 
-    // Writes the payload that a line is read as to the front of the buffer, and answers its length.
-    fn gather(&self, line: &[u16], payload: &mut [u8]) -> usize
-        requires count { good_count (length line.now) ≡ true }
+    // Writes the payload that the line is read as to the front of the buffer, and answers its length.
+    fn gather(&self, payload: &mut [u8]) -> usize
         requires room { 60 ≤ length payload.old }
         ensures length { result ≡ 30 * self.now.bits }
-        ensures payload { payload.new ≡ payload_of self.now.bits (λ k. value_of self.now.cuts.now (2 * level_at line.now k)) ++ drop (30 * self.now.bits) payload.old }
+        ensures payload { payload.new ≡ payload_of self.now.bits (λ k. value_of self.now.cuts.now (2 * level_at self.now.line.now k)) ++ drop (30 * self.now.bits) payload.old }
     {
         let size = 30 * self.bits;
-        self.fill(line, &mut payload[..size]);
+        self.fill(&mut payload[..size]);
         size
     }
 }
@@ -79,11 +79,18 @@ fn gather(line: &[u16], cuts: &Cuts, payload: &mut [u8]) -> Option<usize>
     }
     // a call for each kind, so that each is compiled for its number of cuts: one call reads 1.1 to 1.7 times slower
     match cuts {
-        Cuts::One(cut) => {
-            let cuts = from_ref(cut);
-            Some(Scale { cuts, bits: 1 }.gather(line, payload))
+        Cuts::One(cut) => Some(Scale {
+            line,
+            cuts: from_ref(cut),
+            bits: 1,
         }
-        Cuts::Three(cuts) => Some(Scale { cuts, bits: 2 }.gather(line, payload)),
+        .gather(payload)),
+        Cuts::Three(cuts) => Some(Scale {
+            line,
+            cuts,
+            bits: 2,
+        }
+        .gather(payload)),
     }
 }
 

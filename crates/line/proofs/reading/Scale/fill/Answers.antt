@@ -8,19 +8,19 @@ use Rattle.line.proofs.reading.Scale.fill.Goals as goal
 
 pub slice_bounds-byte-end : goal.slice_bounds-byte-end
 slice_bounds-byte-end c =
-    let line = c.args.line.now in
+    let line = c.args.self.now.line.now in
     let scale = c.args.self.now in
     let w = c.weight-width.ensures.answer in
-    omega (arith, byte_inside scale.bits scale.values.0 scale.values.1 c.loop-j.j c.weight-width.result (omega (arith, c.loop-j-test.true, c.requires.whole)), weight_whole (length line) c.requires.count)
+    omega (arith, byte_inside scale.bits scale.values.0 scale.values.1 c.loop-j.j c.weight-width.result (omega (arith, c.loop-j-test.true, c.requires.whole)), weight_whole (length line) c.args.self.now.count)
 
 pub byte-requires-clause-width : goal.byte-requires-clause-width
 byte-requires-clause-width c =
-    let some = weight_pos (length c.args.line.now) c.requires.count in
+    let some = weight_pos (length c.args.self.now.line.now) c.args.self.now.count in
     (omega (arith, c.weight-width.ensures.answer), c.weight-width.ensures.small)
 
 pub loop-j-preserved : goal.loop-j-preserved
 loop-j-preserved c =
-    let line = c.args.line.now in
+    let line = c.args.self.now.line.now in
     let b = c.args.self.now.bits in
     let cuts = c.args.self.now.cuts.now in
     let w = c.weight-width.result in
