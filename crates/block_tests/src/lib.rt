@@ -130,7 +130,7 @@ mod tests {
         );
     }
 
-    // Part 1 of last 0; the block behind it is read.
+    // Part 1 of last 0; the block behind it is read. Each cause is a test of its own, so this one and the next look alike.
     #[test]
     fn cause_3(rt: HostRuntime) {
         assert_eq!(rt;

@@ -11,7 +11,7 @@ pub fn is_ad_character(c: u8) -> bool
     c.is_ascii_alphanumeric()
 }
 
-// Whether an identifier of this type may have this length.
+// Whether an identifier of this type, a number as in a content, may have this length.
 pub fn fits_length(id_type: u8, length: usize) -> bool
     ensures answer { result ≡ length_fits id_type length }
 {

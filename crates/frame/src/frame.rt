@@ -9,7 +9,7 @@ pub(crate) struct Fill {
     pub(crate) mark: usize,
 }
 
-// In fixed memory: the library crates have no allocator, and no crate beneath them but std.
+// In fixed memory: the library crates have no allocator, and no crate of the kit beneath them but std.
 // A frame that takes blocks of sendings. Every one that exists holds EB 52 and such blocks, and nothing else, below its mark.
 #[derive(Drop)]
 pub struct OpenFrame {
@@ -27,7 +27,7 @@ impl Model for OpenFrame {
     ghost invariant = { λ f. IsOpen (record { bytes = f.bytes; size = f.fill.size; mark = f.fill.mark }) };
 }
 
-// In fixed memory: the library crates have no allocator, and no crate beneath them but std.
+// In fixed memory: the library crates have no allocator, and no crate of the kit beneath them but std.
 // A frame that is drawn, seen as its payload. Every one that exists is EB 52, blocks of sendings and zeros, 2 to 60 bytes in
 // all.
 #[derive(Drop)]

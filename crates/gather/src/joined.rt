@@ -6,7 +6,7 @@ use sending::MESSAGE_MOST;
 use std::marker::Model;
 
 // A message has at most 200 bytes; those behind the first `size` mean nothing.
-// In fixed memory: the library crates have no allocator, and no crate beneath them but std.
+// In fixed memory: the library crates have no allocator, and no crate of the kit beneath them but std.
 #[derive(Drop)]
 pub(crate) struct Joined {
     bytes: [u8; MESSAGE_MOST],

@@ -7,7 +7,7 @@ use super::slot::Slot;
 // No ==: slots past those in use, and bytes left over from parts dropped, mean nothing.
 // No Model of watched numbers and what is gathered: a reader promises that a refused offer leaves every field as it was, and
 // such a view would forget the bytes left over.
-// In fixed memory: the library crates have no allocator, and no crate beneath them but std.
+// In fixed memory: the library crates have no allocator, and no crate of the kit beneath them but std.
 #[derive(Debug, Drop)]
 pub struct Table {
     pub(crate) slots: [Slot; 8],

@@ -28,7 +28,7 @@ impl Palette {
         }
     }
 
-    // How many bits a symbol has.
+    // How many bits a symbol has: a table, and no `as`, since the cases have fields.
     fn bits(&self) -> usize
         ensures answer { result ≡ palette_bits self.now }
         ensures few { (1 ≤ result) × (result ≤ 2) }

@@ -8,7 +8,7 @@ use super::limits::{MESSAGE_MOST, PARTS_MOST};
 use std::marker::Model;
 
 // At most four parts of at most 200 bytes in all, one behind the other. Clauses see them as a list. In fixed memory: the library
-// crates have no allocator, and no crate beneath them but std.
+// crates have no allocator, and no crate of the kit beneath them but std.
 #[derive(Drop)]
 pub(crate) struct Parts {
     // how many parts there are

@@ -2,7 +2,8 @@
 ghost use Rattle.std.specs.Prelude.{◌≡◌, ◌<◌, ◌≤◌, ◌⊎◌, MatchOption};
 ghost use Rattle.tray.specs.Causes.{numbers, most_cause};
 
-// What was wrong: a block isn't read, or the message that it completes fails its check.
+// What was wrong: a block isn't read, or the message that it completes fails its check. No Option of a block's cause: a message
+// has a cause too, at a layer of its own.
 #[derive(Clone, Copy, PartialEq, Eq, Debug)]
 pub enum Cause {
     Block(walk::Cause),

@@ -5,6 +5,7 @@ ghost use Rattle.tray.specs.Entries.{entry_end};
 use super::cause::Cause;
 use super::limits::{FAULT, HEAD};
 
+// No Result: a fault is an entry like another, and told as one.
 #[derive(Clone, Copy, PartialEq, Eq, Debug)]
 pub enum Entry<'a> {
     Message {

@@ -40,7 +40,7 @@ impl Fault {
     }
 }
 
-// In fixed memory: the library crates have no allocator, and no crate beneath them but std.
+// In fixed memory: the library crates have no allocator, and no crate of the kit beneath them but std.
 // At most nine faults, in the order in which they came.
 #[derive(Drop, Debug)]
 pub struct Faults {
