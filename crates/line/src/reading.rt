@@ -79,12 +79,15 @@ fn gather(line: &[u16], cuts: &Cuts, payload: &mut [u8]) -> Option<usize>
     }
     // a call for each kind, so that each is compiled for its number of cuts: one call reads 1.1 to 1.7 times slower
     match cuts {
-        Cuts::One(cut) => Some(Scale {
-            line,
-            cuts: from_ref(cut),
-            bits: 1,
+        Cuts::One(cut) => {
+            let cuts = from_ref(cut);
+            let scale = Scale {
+                line,
+                cuts,
+                bits: 1,
+            };
+            Some(scale.gather(payload))
         }
-        .gather(payload)),
         Cuts::Three(cuts) => Some(Scale {
             line,
             cuts,

@@ -7,7 +7,7 @@ use Rattle.line.proofs.reading.gather.Goals as goal
 pub returns-in-One-clause-payload : goal.returns-in-One-clause-payload
 returns-in-One-clause-payload c =
     let S = level_at c.args.line.now in
-    let wrote = c.gather.ensures.payload ∙ ap (λ l. payload_of 1 (λ k. value_of l (2 * S k)) ++ drop 30 c.args.payload.now) c.from_ref.ensures.value in
+    let wrote = c.gather.ensures.payload ∙ ap (λ l. payload_of 1 (λ k. value_of l (2 * S k)) ++ drop 30 c.args.payload.now) c.from_ref-cuts.ensures.value in
     (gathered_done c.args.cuts.now (One c.in-One.cut) S c.args.payload.now c.gather.new.payload 30 c.in-One.is c.if-payload-lt-PAYLOAD_ROOM.false refl wrote).1
 
 pub returns-in-Three-clause-payload : goal.returns-in-Three-clause-payload
