@@ -15,9 +15,14 @@ pub(crate) const NUMBER: u8 = 7;
 
 pub(crate) const VERSION: u8 = 3;
 
+// The line system of the tests.
+pub(crate) fn one_x() -> OneX {
+    OneX::new(Levels::usual(Depth::Eight))
+}
+
 // A reader that watches the message's number.
 pub(crate) fn watching() -> Result<Reader<OneX>, Refusal> {
-    Reader::new(OneX::new(Levels::usual(Depth::Eight)), &[NUMBER])
+    Reader::new(one_x(), &[NUMBER])
 }
 
 // The line of a frame with one part of the message, sent under a number.
@@ -30,9 +35,7 @@ pub(crate) fn part_of(number: u8, part: u8) -> Result<[u16; 240], Refusal> {
     let mut frame = OpenFrame::open(30)?;
     frame.put(&[&wanted])?;
     let mut line = [0u16; 240];
-    frame
-        .seal()
-        .draw(&OneX::new(Levels::usual(Depth::Eight)), &mut line)?;
+    frame.seal().draw(&one_x(), &mut line)?;
     Ok(line)
 }
 

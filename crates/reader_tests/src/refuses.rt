@@ -1,7 +1,5 @@
 // Refused offers, in their order, and that they change nothing; refused watch lists.
-use crate::lines::{NUMBER, part, tray, watching};
-use line::depth::Depth;
-use onex::levels::Levels;
+use crate::lines::{NUMBER, one_x, part, tray, watching};
 use onex::one_x::OneX;
 use reader::Reader;
 use refusal::Refusal;
@@ -80,7 +78,7 @@ fn frame_numbers_at_the_end(rt: HostRuntime) -> Result<(), Fail> {
 
 // Why a watch list is refused.
 fn wrong(watch: &[u8]) -> Result<Option<Refusal>, Fail> {
-    Ok(Reader::new(OneX::new(Levels::usual(Depth::Eight)), watch).err())
+    Ok(Reader::new(one_x(), watch).err())
 }
 
 #[test]

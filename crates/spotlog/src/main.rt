@@ -33,10 +33,10 @@ fn main(rt: HostRuntime) -> anyhow::Result<()> {
     println!(rt; "")?;
     println!(rt; "It is read through the cable box by 1X, else 2X; watched are {WATCH:?}")?;
     let tray = [0u8; TRAY_LEAST];
-    let lines = reading::arrivals(heap, &film)?;
-    let calls = reading::calls(heap, &lines, &tray)?;
+    let arrivals = reading::arrivals(heap, &film)?;
+    let calls = reading::calls(heap, &arrivals, &tray)?;
     let outcomes = replay(heap, system, &WATCH, &calls).context("the calls are not replayed")?;
-    let spots = reading::report(&rt, &system, &lines, &outcomes)?;
+    let spots = reading::report(&rt, &system, &arrivals, &outcomes)?;
     println!(rt; "")?;
     println!(rt; "The spots on it")?;
     for spot in &spots.list {

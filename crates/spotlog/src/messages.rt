@@ -3,7 +3,7 @@ use body::{
     AD_ID_TYPE, CONTENT_ID, Channel, Content, ContentId, ContentIds, PRESENTATION_TIME,
     PresentationTimes, Time,
 };
-use body_writing::write_body;
+use body_writing::{WritableKind, write_body};
 use refusal::Refusal;
 use sending::{Room, Sending};
 use showing::{CHANNEL, SPOT, TITLE};
@@ -48,29 +48,38 @@ pub enum Piece {
     Wrong,
 }
 
+// A message of some kind, written and cut.
+fn sent<'a, K: WritableKind<'a>>(
+    number: u8,
+    version: u8,
+    message: &K::Message,
+    room: Room,
+) -> Result<Sending, Refusal> {
+    // lent to `write_body`, which allocates nothing and answers how much it wrote
+    let mut body = [0u8; 64];
+    let length = write_body::<K>(message, &mut body)?;
+    Sending::cut(number, version, &body[..length], room)
+}
+
 fn content_id(
     version: u8,
     content: Content,
     channel: Option<Channel>,
     room: Room,
 ) -> Result<Sending, Refusal> {
-    let mut body = [0u8; 64];
     let message = ContentId {
         content: Some(content),
         channel,
     };
-    let length = write_body::<ContentIds>(&message, &mut body)?;
-    Sending::cut(CONTENT_ID, version, &body[..length], room)
+    sent::<ContentIds>(CONTENT_ID, version, &message, room)
 }
 
 fn moment(version: u8, seconds: u32) -> Result<Sending, Refusal> {
-    let mut body = [0u8; 6];
     let time = Time {
         seconds,
         milliseconds: 40,
     };
-    let length = write_body::<PresentationTimes>(&time, &mut body)?;
-    Sending::cut(PRESENTATION_TIME, version, &body[..length], Room::OneX)
+    sent::<PresentationTimes>(PRESENTATION_TIME, version, &time, Room::OneX)
 }
 
 impl Piece {

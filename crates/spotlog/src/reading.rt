@@ -12,27 +12,35 @@ use std::io;
 use system::system::LineSystem;
 use tray::Tray;
 
-// The line of each step.
-pub fn arrivals(heap: Global, film: &[Vec<u16>]) -> Result<Vec<Vec<u16>>, AllocError> {
-    let mut lines = Vec::new(heap);
+// A step of the tape's way, with its line as it comes.
+#[derive(Drop)]
+pub struct Arrival {
+    frame: u64,
+    fate: Fate,
+    line: Vec<u16>,
+}
+
+// Each step with its line.
+pub fn arrivals(heap: Global, film: &[Vec<u16>]) -> Result<Vec<Arrival>, AllocError> {
+    let mut arrivals = Vec::new(heap);
     for (frame, fate) in STEPS {
         let line = match film.get(frame.saturating_sub(FIRST_FRAME) as usize) {
             Some(line) => pass(heap, line, fate)?,
             None => Vec::new(heap),
         };
-        lines.push(line)?;
+        arrivals.push(Arrival { frame, fate, line })?;
     }
-    Ok(lines)
+    Ok(arrivals)
 }
 
 // The calls on the reader: an offer for each frame that comes, and the restart.
 pub fn calls<'a>(
     heap: Global,
-    lines: &'a [Vec<u16>],
+    arrivals: &'a [Arrival],
     tray: &'a [u8],
 ) -> Result<Vec<Call<'a>>, AllocError> {
     let mut calls = Vec::new(heap);
-    for ((frame, fate), line) in STEPS.iter().zip(lines) {
+    for Arrival { frame, fate, line } in arrivals {
         match fate {
             Fate::Lost => {}
             Fate::Restart => calls.push(Call::Restart)?,
@@ -108,12 +116,12 @@ fn print_outcome<'a>(
 pub fn report<'a>(
     rt: &HostRuntime,
     system: &impl LineSystem,
-    lines: &[Vec<u16>],
+    arrivals: &[Arrival],
     outcomes: &'a [Outcome],
 ) -> io::Result<Spots<'a>> {
     let mut spots = Spots::new(rt.alloc());
     let mut outcomes = outcomes.iter();
-    for ((frame, fate), line) in STEPS.iter().zip(lines) {
+    for Arrival { frame, fate, line } in arrivals {
         let log = Log { rt, frame: *frame };
         match fate {
             Fate::Restart => log.say("restart", fate)?,

@@ -7,11 +7,8 @@ use sending::{Block, Room, Sending};
 use std::alloc::Global;
 use std::fmt;
 use walk::{Entry, Walk};
-use wire::write_block;
+use wire::{block_length, write_block};
 use words::{Hex, Stop, Words};
-
-// The most bytes of a block as it is written.
-const BLOCK_MOST: usize = 60;
 
 pub fn crc(mut case: Case) -> Result<String, Stop> {
     let bytes = case.hex()?;
@@ -20,11 +17,13 @@ pub fn crc(mut case: Case) -> Result<String, Stop> {
 }
 
 fn read_room(words: &mut Words) -> Result<Room, Stop> {
-    match words.count()? {
-        28 => Ok(Room::OneX),
-        58 => Ok(Room::TwoX),
-        _ => Err(Stop::What),
+    let bytes = words.count()?;
+    for room in [Room::OneX, Room::TwoX] {
+        if room.bytes() == bytes {
+            return Ok(room);
+        }
     }
+    Err(Stop::What)
 }
 
 pub fn cut(mut case: Case) -> Result<String, Stop> {
@@ -54,9 +53,8 @@ pub fn sending_of(
 
 // A block of a sending as it is written.
 fn written(heap: Global, sending: &Sending, i: u8) -> Result<Vec<u8>, Stop> {
-    let mut block = vec![in heap; 0; BLOCK_MOST]?;
-    let end = write_block(sending, i, &mut block, 0)?;
-    block.truncate(end);
+    let mut block = vec![in heap; 0; block_length(sending, i)?]?;
+    let _end = write_block(sending, i, &mut block, 0)?;
     Ok(block)
 }
 
