@@ -17,6 +17,7 @@ fn roughen(line: &mut [u16], e: u16, most: u16) {
     }
 }
 
+// The runtime prints and the depth is printed: two arguments, which share no fact.
 // Prints what is read in a line.
 fn report(rt: &HostRuntime, depth: Depth, line: &[u16]) -> io::Result<()> {
     // lent to `read`, which allocates nothing and answers how much it wrote

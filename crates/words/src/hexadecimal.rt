@@ -7,6 +7,7 @@ use crate::stop::Stop;
 use std::alloc::Global;
 use std::fmt;
 
+// Heap and word stay two arguments: an allocator and a text have nothing in common but this call.
 // The bytes that a word writes: two digits each, of either case. No bytes are `-`, or an empty word.
 pub fn read_hex(heap: Global, word: &[u8]) -> Result<Vec<u8>, Stop>
     ensures bytes { IfOk result (λ v. (word.now ≡ codes "-") × (v.items ≡ []) ⊎ (decode_of word.now ≡ Ok v.items)) }

@@ -30,6 +30,7 @@ fn read_count(word: &[u8]) -> Result<usize, Stop>
     Ok(count as usize)
 }
 
+// That a step leaves the separator is said at each: it speaks of before and after, which no invariant can.
 impl<'a> Words<'a> {
     pub fn new(line: &'a [u8]) -> Self
         ensures rest { option_copied result.pieces.rest ≡ Some line.now }
@@ -67,7 +68,7 @@ impl<'a> Words<'a> {
         }
     }
 
-    // A number, at most so much.
+    // A number, at most so much. Beside the one by a type, since no public function goes.
     pub fn number(&mut self, most: u64) -> Result<u64, Stop>
         ensures most { IfOk result (λ value. value ≤ most) }
         ensures answer { Takes self.old.pieces.separator (option_copied self.old.pieces.rest) (option_copied self.new.pieces.rest) (result ≡ Err What) (λ w. result ≡ ok_or (number_of most w) What) }
@@ -87,7 +88,7 @@ impl<'a> Words<'a> {
         read_number(self.word()?)
     }
 
-    // A number at most so much, or none for `-`.
+    // A number at most so much, or none for `-`; beside the one by a type too.
     pub fn optional(&mut self, most: u64) -> Result<Option<u64>, Stop>
         ensures most { IfOk result (λ value. IfSome value (λ n. n ≤ most)) }
         ensures answer { Takes self.old.pieces.separator (option_copied self.old.pieces.rest) (option_copied self.new.pieces.rest) (result ≡ Err What) (λ w. OrNone w (λ r. r ≡ ok_or (number_of most w) What) result) }
