@@ -9,16 +9,19 @@ use showing::COLUMNS;
 use std::io;
 use system::system::LineSystem;
 
-// Marks one frame with two groups, and fills its line.
+// Marks one frame with two groups, the first so many blocks and the others, and fills its line. The two are told apart here: an
+// array of the groups that is lent on is not covered by the borrow checker.
 fn mark(
     log: Log,
     system: &impl LineSystem,
     size: usize,
-    groups: &[&[&Wanted]; 2],
+    blocks: &[&Wanted],
+    first: usize,
     line: &mut [u16],
 ) -> io::Result<()> {
     let mut refused = [None; 2];
-    let sealed = match mark_frame(size, groups, &mut refused) {
+    let (group, then) = blocks.split_at(first.min(blocks.len()));
+    let sealed = match mark_frame(size, &[group, then], &mut refused) {
         Ok(sealed) => sealed,
         Err(refusal) => return log.refused("frame", refusal),
     };
@@ -54,8 +57,7 @@ fn shoot(log: Log, system: &impl LineSystem, size: usize, shot: Shot) -> anyhow:
         .collect(heap)?;
     let blocks: Vec<&Wanted> = blocks.iter().collect(heap)?;
     let mut line = vec![in heap; 0u16; COLUMNS]?;
-    let (group, then) = blocks.split_at(first.len().min(blocks.len()));
-    mark(log, system, size, &[group, then], &mut line)?;
+    mark(log, system, size, &blocks, first.len(), &mut line)?;
     Ok(line)
 }
 
