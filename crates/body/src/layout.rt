@@ -13,8 +13,11 @@ pub const MILLISECONDS_OFFSET: usize = 4;
 // What ten bits can hold: milliseconds, a major and a minor number lie in so many.
 pub const TEN_BITS: u32 = 1024;
 
-// The six reserved bits before the ten of milliseconds, as ones.
-pub const TIME_ONES: u16 = 0xfc00;
+// The six reserved bits before the ten of milliseconds, as ones: in the byte that holds them,
+pub const TIME_ONES: u16 = 252;
+
+// and in the number of both bytes.
+pub const TIME_RESERVED: u16 = 0xfc00;
 
 // A channel: BSID in two bytes, then four reserved bits, major and minor number in three.
 pub const CHANNEL_SIZE: usize = 5;
@@ -28,8 +31,17 @@ pub const MINOR_OFFSET: usize = 3;
 // The largest major or minor number.
 pub const CHANNEL_NUMBER_MOST: u16 = 1023;
 
-// The four reserved bits before the twenty of major and minor number, as ones.
-pub const CHANNEL_ONES: u32 = 0xf0_0000;
+// What the low part of a major number can hold: the six of its ten bits in its second byte.
+pub const MAJOR_LOW: u16 = 64;
+
+// What the high part of a minor number can hold: two of the ten bits lie in its first byte.
+pub const MINOR_HIGH: u16 = 4;
+
+// The four reserved bits before the twenty of major and minor number, as ones: in the byte that holds them,
+pub const CHANNEL_ONES: u16 = 240;
+
+// and in the number of all three bytes.
+pub const CHANNEL_RESERVED: u32 = 0xf0_0000;
 
 // The first byte of a content ID has the flags; content and channel follow it.
 pub const FLAGS_SIZE: usize = 1;

@@ -20,18 +20,21 @@ mod tests {
         milliseconds: 999,
     };
 
-    // The refusal of an answer.
-    fn refused<T: Drop>(answer: Result<T, Refusal>) -> Option<Refusal> {
-        answer.err()
+    // The number and the place of the refusal of an answer.
+    fn refused<T: Drop>(answer: Result<T, Refusal>) -> Option<(u8, u64)> {
+        match answer {
+            Ok(_) => None,
+            Err(refusal) => Some((refusal.number(), refusal.place())),
+        }
     }
 
     // The same of a content ID body that is read.
-    fn read_refused(body: &[u8]) -> Option<Refusal> {
+    fn read_refused(body: &[u8]) -> Option<(u8, u64)> {
         refused(read_body::<ContentIds>(body))
     }
 
     // The same of a content ID message in the call that writes and reads back.
-    fn write_refused(message: &ContentId) -> Option<Refusal> {
+    fn write_refused(message: &ContentId) -> Option<(u8, u64)> {
         refused(write_body::<ContentIds>(message, &mut [0xaa; 300]))
     }
 
@@ -133,62 +136,44 @@ mod tests {
     #[test]
     fn content_id_bodies_are_refused_at_their_wrong_place(rt: HostRuntime) {
         // empty; neither part; type or length lack; EIDR of 11; Ad-ID of 13; 1,000 milliseconds
-        assert_eq!(rt; read_refused(&[]), Some(Refusal::Body(0)));
-        assert_eq!(rt; read_refused(&[0x3f, 1]), Some(Refusal::Body(0)));
-        assert_eq!(rt; read_refused(&[0xbf, 0x81]), Some(Refusal::Body(2)));
-        assert_eq!(rt; read_refused(&[0xbf, 0x81, 11, 0]), Some(Refusal::Body(2)));
-        assert_eq!(rt;
-            read_refused(&[0xbf, 0x82, 13, b'-']),
-            Some(Refusal::Body(2))
-        );
+        assert_eq!(rt; read_refused(&[]), Some((9, 0)));
+        assert_eq!(rt; read_refused(&[0x3f, 1]), Some((9, 0)));
+        assert_eq!(rt; read_refused(&[0xbf, 0x81]), Some((9, 2)));
+        assert_eq!(rt; read_refused(&[0xbf, 0x81, 11, 0]), Some((9, 2)));
+        assert_eq!(rt; read_refused(&[0xbf, 0x82, 13, b'-']), Some((9, 2)));
         assert_eq!(rt;
             read_refused(&[0xbf, 0xc3, 1, 0, 0, 0, 0, 0xff, 0xe8]),
-            Some(Refusal::Body(7))
+            Some((9, 7))
         );
         // valid-until lacks a byte; a wrong character before a lacking byte; the identifier lacks; the channel lacks; a byte more
         assert_eq!(rt;
             read_refused(&[0xbf, 0xc3, 1, 0, 0, 0, 0, 0xff]),
-            Some(Refusal::Body(8))
+            Some((9, 8))
         );
-        assert_eq!(rt;
-            read_refused(&[0xbf, 0x82, 11, b'A', b'-']),
-            Some(Refusal::Body(4))
-        );
-        assert_eq!(rt;
-            read_refused(&[0xbf, 0x82, 11, b'A', b'B']),
-            Some(Refusal::Body(5))
-        );
-        assert_eq!(rt;
-            read_refused(&[0x7f, 1, 2, 0xf0, 0x14]),
-            Some(Refusal::Body(5))
-        );
-        assert_eq!(rt;
-            read_refused(&[0xbf, 0x83, 1, 7, 7, 7]),
-            Some(Refusal::Body(4))
-        );
+        assert_eq!(rt; read_refused(&[0xbf, 0x82, 11, b'A', b'-']), Some((9, 4)));
+        assert_eq!(rt; read_refused(&[0xbf, 0x82, 11, b'A', b'B']), Some((9, 5)));
+        assert_eq!(rt; read_refused(&[0x7f, 1, 2, 0xf0, 0x14]), Some((9, 5)));
+        assert_eq!(rt; read_refused(&[0xbf, 0x83, 1, 7, 7, 7]), Some((9, 4)));
     }
 
     #[test]
     fn presentation_times_are_refused_at_their_wrong_place(rt: HostRuntime) {
-        assert_eq!(rt;
-            refused(read_body::<PresentationTimes>(&[])),
-            Some(Refusal::Body(0))
-        );
+        assert_eq!(rt; refused(read_body::<PresentationTimes>(&[])), Some((9, 0)));
         assert_eq!(rt;
             refused(read_body::<PresentationTimes>(&[0, 0, 0, 1, 0xff])),
-            Some(Refusal::Body(5))
+            Some((9, 5))
         );
         assert_eq!(rt;
             refused(read_body::<PresentationTimes>(&[0, 0, 0, 1, 0xff, 0xe8])),
-            Some(Refusal::Body(4))
+            Some((9, 4))
         );
         assert_eq!(rt;
             refused(read_body::<PresentationTimes>(&[0, 0, 0, 1, 0xff, 0xe8, 0])),
-            Some(Refusal::Body(4))
+            Some((9, 4))
         );
         assert_eq!(rt;
             refused(read_body::<PresentationTimes>(&[0, 0, 0, 1, 0xff, 0xe7, 0])),
-            Some(Refusal::Body(6))
+            Some((9, 6))
         );
     }
 
@@ -203,30 +188,24 @@ mod tests {
                 content: None,
                 channel: None,
             },),
-            Some(Refusal::Body(0))
+            Some((9, 0))
         );
-        assert_eq!(rt;
-            write_refused(&content(64, None, b"any")),
-            Some(Refusal::Body(1))
-        );
-        assert_eq!(rt;
-            write_refused(&content(3, None, &[0; 256])),
-            Some(Refusal::Body(2))
-        );
+        assert_eq!(rt; write_refused(&content(64, None, b"any")), Some((9, 1)));
+        assert_eq!(rt; write_refused(&content(3, None, &[0; 256])), Some((9, 2)));
         assert_eq!(rt;
             write_refused(&content(1, None, b"ELEVENBYTES")),
-            Some(Refusal::Body(2))
+            Some((9, 2))
         );
         assert_eq!(rt;
             write_refused(&content(3, Some(late), b"any")),
-            Some(Refusal::Body(7))
+            Some((9, 7))
         );
         assert_eq!(rt;
             write_refused(&content(2, None, b"ABCD-123456")),
-            Some(Refusal::Body(7))
+            Some((9, 7))
         );
-        assert_eq!(rt; write_refused(&channel(1, 1024, 1)), Some(Refusal::Body(3)));
-        assert_eq!(rt; write_refused(&channel(1, 5, 1024)), Some(Refusal::Body(4)));
+        assert_eq!(rt; write_refused(&channel(1, 1024, 1)), Some((9, 3)));
+        assert_eq!(rt; write_refused(&channel(1, 5, 1024)), Some((9, 4)));
     }
 
     #[test]
@@ -237,7 +216,7 @@ mod tests {
             milliseconds: 1000,
         };
         let answer = write_body::<PresentationTimes>(&late, &mut out);
-        assert_eq!(rt; refused(answer), Some(Refusal::OutputLength(5)));
+        assert_eq!(rt; refused(answer), Some((4, 5)));
         assert_eq!(rt; out, [0xaa; 5]);
     }
 

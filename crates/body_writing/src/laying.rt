@@ -6,8 +6,8 @@ ghost use Rattle.body.specs.Messages.{identified, said_content_id};
 ghost use Rattle.body_writing.specs.Outputs.{Lays, or_nothing};
 
 use body::{
-    CHANNEL_FLAG, CHANNEL_ONES, CHANNEL_SIZE, CONTENT_FLAG, CONTENT_ONES, Channel, Content,
-    ContentId, FLAGS_ONES, TEN_BITS, TIME_ONES, TIME_SIZE, Time, UNTIL_FLAG,
+    CHANNEL_FLAG, CHANNEL_RESERVED, CHANNEL_SIZE, CONTENT_FLAG, CONTENT_ONES, Channel, Content,
+    ContentId, FLAGS_ONES, TEN_BITS, TIME_RESERVED, TIME_SIZE, Time, UNTIL_FLAG,
 };
 use buffers::lay;
 
@@ -17,7 +17,7 @@ pub(crate) fn time_as_bytes(time: Time) -> [u8; TIME_SIZE]
     ensures { result ≡ time_bytes ones.time time }
 {
     let [s0, s1, s2, s3] = time.seconds.to_be_bytes();
-    let [high, low] = (TIME_ONES + time.milliseconds).to_be_bytes();
+    let [high, low] = (TIME_RESERVED + time.milliseconds).to_be_bytes();
     [s0, s1, s2, s3, high, low]
 }
 
@@ -28,7 +28,7 @@ pub(crate) fn channel_as_bytes(channel: Channel) -> [u8; CHANNEL_SIZE]
     ensures { result ≡ channel_bytes ones.channel (Some channel) }
 {
     let [b0, b1] = channel.bsid.to_be_bytes();
-    let numbers = CHANNEL_ONES + channel.major as u32 * TEN_BITS + channel.minor as u32;
+    let numbers = CHANNEL_RESERVED + channel.major as u32 * TEN_BITS + channel.minor as u32;
     let [_, high, middle, low] = numbers.to_be_bytes();
     [b0, b1, high, middle, low]
 }

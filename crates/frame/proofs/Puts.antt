@@ -65,6 +65,9 @@ module _ {n : ℕ} {xs : List ℕ} {old : ℕ} {ws : List Want} (room : n ≤ le
     going_back =
         ap (take old) g.bytes ∙ take_laid_below xs old (wires (blocks (take i ws))) old (omega arith) (omega (arith, g.place, g.within))
 
+    pub going_length : length ys ≡ length xs
+    going_length = ap length g.bytes ∙ length_laid xs old (wires (blocks (take i ws))) (omega (arith, g.place, g.within))
+
     going_bytes : take mark ys ≡ take old xs ++ wires (blocks (take i ws))
     going_bytes =
         ap (λ m. take m ys) g.place ∙ ap (take (old + length (wires (blocks (take i ws))))) g.bytes ∙ take_laid xs old (wires (blocks (take i ws))) (omega (arith, g.place, g.within))

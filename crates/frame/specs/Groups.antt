@@ -81,8 +81,9 @@ pub record Open : Type 0 where
 abbrev pub filled : Open → List ℕ
 filled f = take f.mark f.bytes
 
--- what is true of every open frame: it holds EB 52 and blocks of sendings up to its mark, which lies within its payload
+-- what is true of every open frame: in its 60 bytes it holds EB 52 and blocks of sendings up to its mark, which lies within its payload
 pub record IsOpen (f : Open) : Type 0 where
+  pub memory : length f.bytes ≡ 60
   pub begun : 2 ≤ f.mark
   pub within : f.mark ≤ f.size
   pub room : f.size ≤ 60

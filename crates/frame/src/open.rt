@@ -1,7 +1,7 @@
 // Opening and sealing.
 ghost use Rattle.std.specs.Prelude.{◌≡◌, ◌-◌, [], ◌++◌, replicate, IfOk};
-ghost use Rattle.frame.specs.Frames.{Holds, Seals};
-ghost use Rattle.frame.specs.Groups.{filled};
+ghost use Rattle.frame.specs.Frames.{Holds, Seals, SealedOver};
+ghost use Rattle.frame.specs.Groups.{IsOpen, filled};
 ghost use Rattle.frame.specs.Marking.{opening};
 
 use super::frame::{Fill, OpenFrame, SealedFrame};
@@ -14,6 +14,7 @@ impl OpenFrame {
     pub fn open(size: usize) -> Result<OpenFrame, Refusal>
         ensures answer { result ≡ opening size }
         ensures blocks { IfOk result (λ f. Holds (filled f) []) }
+        ensures is_open { IfOk result IsOpen }
     {
         if !(PAYLOAD_LEAST..=PAYLOAD_MOST).contains(&size) {
             return Err(Refusal::Payload);
@@ -33,6 +34,8 @@ impl OpenFrame {
     pub fn seal(self) -> SealedFrame
         ensures payload { result ≡ filled self ++ replicate (self.size - self.mark) 0 }
         ensures blocks { Seals (filled self) result }
+        ensures was_open { IsOpen self }
+        ensures sealed { SealedOver result }
     {
         let OpenFrame { mut bytes, fill } = self;
         bytes[fill.mark..].fill(0);

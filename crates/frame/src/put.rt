@@ -1,7 +1,7 @@
 // Putting a group of blocks into an open frame, whole or not at all.
 ghost use Rattle.std.specs.Prelude.{◌≡◌, ◌≤◌, MatchResult};
 ghost use Rattle.frame.specs.Frames.{Grows};
-ghost use Rattle.frame.specs.Groups.{filled, block_answer, putting, added, WholeOrNot, After};
+ghost use Rattle.frame.specs.Groups.{IsOpen, filled, block_answer, putting, added, WholeOrNot, After};
 ghost use Rattle.frame.specs.Model.{Goes, Stays, want, wants};
 
 use super::frame::{Fill, OpenFrame};
@@ -64,6 +64,7 @@ impl OpenFrame {
         ensures whole_or_not_at_all { WholeOrNot self.old (wants group.now) result }
         ensures frame { After self.old (wants group.now) result self.new }
         ensures blocks { Grows (filled self.old) (filled self.new) (added self.old (wants group.now)) }
+        ensures is_open { IsOpen self.old × IsOpen self.new }
     {
         let OpenFrame { bytes, fill } = self;
         let old = fill.mark;

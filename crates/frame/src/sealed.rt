@@ -21,6 +21,7 @@ impl SealedFrame {
         ensures answer { result ≡ draw_answer (L.LineSystem.draws system.now) self.now (length line.old) }
         ensures line { line.new ≡ draw_line result (L.LineSystem.drawn system.now self.now (length line.old)) line.old }
         ensures carried { result ≡ Ok tt → L.LineSystem.carries system.now line.new self.now }
+        ensures sealed { SealedOver self.now }
     {
         system.draw(self.payload(), line)
     }

@@ -6,7 +6,9 @@ use onex::one_x::OneX;
 use refusal::Refusal;
 use std::process::Abort;
 use std::test::Fail;
-use system::joins::first_else;
+use system::duplicates::Duplicates;
+use system::first_else::FirstElse;
+use system::joins::{Joins, first_else};
 use system::system::LineSystem;
 use twox::one_two::one_else_two;
 use twox::two_x::TwoX;
@@ -105,5 +107,17 @@ fn levels_and_depths(rt: HostRuntime) -> Result<(), Fail> {
     assert_eq!(rt; Depth::from_bits(9), Err(Refusal::Depth));
     let one = OneX::new(Levels::new(Depth::Eight, 4, 20)?);
     assert!(rt; first_else(one, TwoX::new(Depth::Ten)).is_err());
+    Ok(())
+}
+
+// The two systems of a pair, a second pair of them, and both given back where their depths differ.
+#[test]
+fn pairs(rt: HostRuntime) -> Result<(), Fail> {
+    let (one, two) = (OneX::new(Levels::usual(Depth::Ten)), TwoX::new(Depth::Ten));
+    let pair = one.join(two)?.clone()?;
+    assert_eq!(rt; *pair.first(), one);
+    assert_eq!(rt; *pair.second(), two.duplicate()?);
+    let apart = FirstElse::of(one, TwoX::new(Depth::Eight));
+    assert_eq!(rt; apart.err(), Some((one, TwoX::new(Depth::Eight))));
     Ok(())
 }

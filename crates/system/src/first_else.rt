@@ -5,6 +5,7 @@ ghost use Rattle.system.specs.Either.{found_else};
 ghost use Rattle.std.proofs.lemmas.Bool.{or_left, or_right};
 ghost use Rattle.system.specs.Otherwise.{drawn_by, or_second, found_first, found_second, found_by};
 
+use crate::duplicates::Duplicates;
 use crate::system::LineSystem;
 use line::depth::Depth;
 use refusal::Refusal;
@@ -20,14 +21,32 @@ pub struct FirstElse<A: LineSystem, B: LineSystem> {
     ghost apart: { (line p : List ℕ) → B.LineSystem.carries second line p → A.LineSystem.found first line ≡ None },
 }
 
+impl<A: LineSystem, B: LineSystem> FirstElse<A, B> {
+    // The system that comes first,
+    pub fn first(&self) -> &A
+        ensures answer { result.now ≡ self.now.first }
+    {
+        &self.first
+    }
+
+    // and the other.
+    pub fn second(&self) -> &B
+        ensures answer { result.now ≡ self.now.second }
+    {
+        &self.second
+    }
+}
+
 // By hand, since no derive takes a ghost field beside type parameters.
-impl<A: LineSystem + Copy, B: LineSystem + Copy> Clone for FirstElse<A, B> {
+impl<A: Duplicates, B: Duplicates> Clone for FirstElse<A, B> {
     ghost is_clone = { λ x y. y ≡ x };
 
-    ghost is_infallible = { λ _. ⊤ };
+    ghost is_infallible = { λ x. A.Duplicates.is_sure x.first × B.Duplicates.is_sure x.second };
 
     fn clone(&self) -> Result<FirstElse<A, B>, AllocError> {
-        Ok(*self)
+        let first = self.first.duplicate()?;
+        let second = self.second.duplicate()?;
+        Ok(FirstElse { first, second })
     }
 }
 

@@ -87,7 +87,8 @@ impl Faults {
 
     // How many bytes their section of a tray takes: their count, then each.
     pub(crate) fn section_size(&self) -> usize
-        ensures { result ≡ length (fault_section self.now) }
+        ensures size { result ≡ length (fault_section self.now) }
+        ensures few { length self.now ≤ 9 }
     {
         1 + FAULT * self.as_slice().len()
     }
@@ -96,6 +97,7 @@ impl Faults {
     pub fn push(&mut self, fault: Fault) -> bool
         ensures answer { result ≡ nat_lt (length self.old) 9 }
         ensures faults { self.new ≡ fault_more self.old (fault_said fault) }
+        ensures few { (length self.old ≤ 9) × (length self.new ≤ 9) }
     {
         if self.count == FAULTS_MOST {
             return false;

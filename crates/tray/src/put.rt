@@ -1,5 +1,5 @@
 // Writing into a tray. What doesn't fit is not written, and the tray stays as it was.
-ghost use Rattle.std.specs.Prelude.{◌≡◌, ◌+◌, length, nat_le};
+ghost use Rattle.std.specs.Prelude.{◌≡◌, ◌+◌, ◌≤◌, length, nat_le};
 ghost use Rattle.tray.specs.Said.{fault_said};
 ghost use Rattle.tray.specs.Writing.{message_end, message_put, fault_end, fault_put, section_end, section_put, finish_end, finish_put, Adds, Finishes};
 
@@ -47,6 +47,7 @@ pub fn put_fault(tray: &mut [u8], at: usize, fault: Fault) -> Option<usize>
 pub fn put_faults(tray: &mut [u8], at: usize, faults: &Faults) -> Option<usize>
     ensures answer { result ≡ section_end faults.now at (length tray.old) }
     ensures tray { tray.new ≡ section_put faults.now at tray.old }
+    ensures few { length faults.now ≤ 9 }
 {
     if !has_room(tray, at, faults.section_size()) {
         return None;
@@ -65,8 +66,10 @@ pub fn finish(tray: &mut [u8], messages: u8, at: usize, faults: &Faults) -> Opti
     ensures answer { result ≡ finish_end faults.now at (length tray.old) }
     ensures tray { tray.new ≡ finish_put messages faults.now at tray.old }
     ensures is_whole { Finishes tray.old messages at faults.now result tray.new }
+    ensures few { length faults.now ≤ 9 }
 {
-    if at == 0 || !has_room(tray, at, faults.section_size()) {
+    let size = faults.section_size();
+    if at == 0 || !has_room(tray, at, size) {
         return None;
     }
     tray[0] = messages;

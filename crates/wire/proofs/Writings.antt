@@ -13,7 +13,7 @@ use Rattle.wire.specs.Writing.{size, wanted_size, writing, written}
 use Rattle.sending.specs.Wanted.{wanted}
 use Rattle.sending.proofs.Rules.{numbers, part_short}
 use Rattle.sending.proofs.Wants.{check_none}
-use Rattle.wire.proofs.Wires.{length_block}
+use Rattle.wire.proofs.Wires.{length_block, length_check}
 
 module _ (s : Sending) (i : ℕ) where
   pub wanted_ok : (b : Block) → Ok b ≡ wanted s i → (i < length s.parts) × (b ≡ block s i)
@@ -37,6 +37,10 @@ module _ (s : Sending) (i : ℕ) where
   pub size_some : 7 ≤ size s i
   unfolding size
   size_some = omega (arith, length_block (block s i))
+
+  pub size_most : IsSending s → i < length s.parts → size s i ≤ 62
+  unfolding size
+  size_most r h = omega (arith, length_block (block s i), length_check (block s i).check, part_short s r i h)
 
   pub fits : IsSending s → i < length s.parts → Fits (block s i)
   fits r h = let n = numbers s r in record { body = part_short s r i h; version = omega arith; part = omega arith; last = omega arith }

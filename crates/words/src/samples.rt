@@ -1,5 +1,6 @@
 // Samples in runs, each a value and how often it stands.
-use crate::lists::{is_nothing, read_each};
+use crate::lists::is_nothing;
+use crate::pieces::Pieces;
 use crate::stop::Stop;
 use crate::words::{COUNT_MOST, Words};
 use std::alloc::Global;
@@ -20,7 +21,9 @@ pub fn read_samples(heap: Global, word: &[u8]) -> Result<Vec<u16>, Stop> {
     if is_nothing(word) {
         return Ok(line);
     }
-    for (value, count) in read_each(heap, word, read_run)? {
+    // run by run, so that a word takes no more memory than its samples, and ends where they are too many
+    for run in Pieces::new(word, b',') {
+        let (value, count) = read_run(run)?;
         let length = line.len().saturating_add(count);
         if length as u64 > COUNT_MOST {
             return Err(Stop::What);

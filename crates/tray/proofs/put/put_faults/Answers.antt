@@ -46,4 +46,4 @@ returns c =
     let section : length xs ∷ flat_map fault_bytes (map fault_said (take c.loop-fault.fault-index xs)) ≡ fault_section fs = λ i. count i ∷ flat_map fault_bytes (all i) in
     let lay = lays t (fault_section fs) c.args.at (omega arith) in
     let end : c.loop-fault.end ≡ c.args.at + length (fault_section fs) = omega (arith, c.loop-fault.invariant.end_is) in
-    record { answer = ap Some end ∙ sym lay.0; tray = c.loop-fault.invariant.tray_is ∙ ap (laid t c.args.at) section ∙ sym lay.1 }
+    record { answer = ap Some end ∙ sym lay.0; tray = c.loop-fault.invariant.tray_is ∙ ap (laid t c.args.at) section ∙ sym lay.1; few = c.section_size.ensures.few }

@@ -1,4 +1,4 @@
-use Rattle.std.proofs.Common.{◌≡◌, ◌<◌, ◌≤◌, List, [], ◌++◌, length, get_or, take, Ok, Err, ℕ, sym, refl, ap, ◌∙◌, subst, arith, Bor}
+use Rattle.std.proofs.Common.{◌≡◌, ◌<◌, ◌≤◌, List, [], ◌++◌, length, get_or, take, Ok, Err, ℕ, sym, refl, ap, ◌∙◌, subst, arith, rules, Bor}
 use Rattle.std.proofs.lemmas.List.{length-map, get_or-map}
 use Rattle.std.proofs.lemmas.Result.{err_from_is_err_and}
 use Rattle.frame.specs.Frames.{Filled, Holds}
@@ -6,7 +6,7 @@ use Rattle.frame.specs.Groups.{Open, IsOpen, block_answer, put_answer, put_block
 use Rattle.frame.specs.Model.{want, wants}
 use Rattle.frame.specs.declared.wanted.Wanted.{Wanted}
 use Rattle.frame.specs.declared.frame.Fill.{Fill}
-use Rattle.frame.proofs.Puts.{filled_same, holds_same, going_none, going_more, going_back, going_filled, refused_answer, refused_frame, refused_blocks, whole_answer, whole_frame, whole_holds}
+use Rattle.frame.proofs.Puts.{filled_same, holds_same, going_none, going_more, going_back, going_length, going_filled, refused_answer, refused_frame, refused_blocks, whole_answer, whole_frame, whole_holds}
 use Rattle.frame.proofs.Reasons.{whole_or_not}
 use Rattle.frame.proofs.frame.OpenFrame.put.Goals as goal
 use Rattle.frame.proofs.frame.OpenFrame.put.Goals.{After-drop-guard, After-keep}
@@ -70,12 +70,16 @@ same_below c =
     ap (take s.fill.mark) c.in_err-put_block.ensures.effect.bytes
     ∙ going_back (omega (arith, c.self.invariant.room, c.self.told)) c.loop-i.invariant.going
 
-pub invariant_of-self : goal.invariant_of-self
-invariant_of-self c =
+still_open : (c : After-drop-guard) → IsOpen (seen c.put_block.new.bytes c.drop-guard.new.self.0)
+still_open c =
     let s = c.self.inside in
     let o = c.self.invariant in
+    let memory : length c.put_block.new.bytes ≡ 60 = search rules in
     subst (λ (q : Fill). IsOpen (seen c.put_block.new.bytes q)) (sym (put_back c))
-    (record { begun = o.begun; within = o.within; room = o.room; holds = filled_same (take s.fill.mark s.bytes) (take s.fill.mark c.put_block.new.bytes) (same_below c) o.holds })
+    (record { memory = memory; begun = o.begun; within = o.within; room = o.room; holds = filled_same (take s.fill.mark s.bytes) (take s.fill.mark c.put_block.new.bytes) (same_below c) o.holds })
+
+pub invariant_of-self : goal.invariant_of-self
+invariant_of-self c = still_open c
 
 pub returns-in_err-put_block : goal.returns-in_err-put_block
 returns-in_err-put_block c =
@@ -103,17 +107,22 @@ returns-in_err-put_block c =
           (rw r (refused_frame room going lt w at c.in_err-put_block.field-0.0 no c.put_block.new.bytes c.in_err-put_block.ensures.effect.bytes));
       blocks = λ bs h. subst (λ (q : Fill). Holds (take q.mark c.put_block.new.bytes) (bs ++ put_blocks n old ws)) back
           (subst (λ q. Holds (take old c.put_block.new.bytes) (bs ++ q)) (sym none) (holds_same (take old s.bytes) (take old c.put_block.new.bytes) bs (same_below c) h));
+      is_open = (c.self.invariant, still_open c);
     })
 
 -- ---- all blocks are in
-pub invariant_of-self-2 : goal.invariant_of-self-2
-invariant_of-self-2 c =
+goes_on : (c : After-keep) → IsOpen (seen c.loop-i.bytes c.keep.new.self.0)
+goes_on c =
     let s = c.self.inside in
     let o = c.self.invariant in
     let going = c.loop-i.invariant.going in
     let f : Filled (take c.loop-i.guard.fill.now.mark c.loop-i.bytes) =
     going_filled (omega (arith, o.room, c.self.told)) going o.holds in
-    subst (λ (q : Fill). IsOpen (seen c.loop-i.bytes q)) (sym (kept c)) (record { begun = omega (arith, o.begun, going.place); within = going.within; room = o.room; holds = f })
+    let memory : length c.loop-i.bytes ≡ 60 = going_length (omega (arith, o.room, c.self.told)) going ∙ o.memory in
+    subst (λ (q : Fill). IsOpen (seen c.loop-i.bytes q)) (sym (kept c)) (record { memory = memory; begun = omega (arith, o.begun, going.place); within = going.within; room = o.room; holds = f })
+
+pub invariant_of-self-2 : goal.invariant_of-self-2
+invariant_of-self-2 c = goes_on c
 
 pub returns : goal.returns
 returns c =
@@ -133,4 +142,5 @@ returns c =
       whole_or_not_at_all = whole_or_not (seen s.bytes s.fill) ws c.self.invariant.within (Ok tt) a;
       frame = subst (λ (q : Fill). After (seen s.bytes s.fill) ws (Ok tt) (seen c.loop-i.bytes q)) is (whole_frame room going past);
       blocks = λ bs h. subst (λ (q : Fill). Holds (take q.mark c.loop-i.bytes) (bs ++ put_blocks n old ws)) is (whole_holds room going past bs h);
+      is_open = (c.self.invariant, goes_on c);
     })

@@ -22,4 +22,6 @@ returns c =
     (record {
       payload = sealed_payload s.fill.mark s.fill.size s.bytes c.fill.new.self l low o.within o.room e;
       blocks = sealed_blocks s.fill.mark s.fill.size s.bytes c.fill.new.self l low o.within o.room e;
+      was_open = o;
+      sealed = sealed_over s.fill.mark s.fill.size s.bytes c.fill.new.self l low o.within o.room e o.holds;
     })

@@ -16,3 +16,6 @@ returns-clause-carried g c ok =
     let d = drawable (L.draws s) p n tt (subst SealedOver e c.payload.ensures.sealed) (sym ok ∙ a) in
     let is : c.draw.new.line ≡ L.drawn s p n = l ∙ ap (λ r. draw_line r (L.drawn s p n) c.args.line.now) ok in
     subst (λ q. L.carries s q p) (sym is) (g.met.L.LineSystem.drawing s p n d.1 d.0)
+
+pub returns-clause-sealed : goal.returns-clause-sealed
+returns-clause-sealed g c = subst SealedOver c.payload.ensures.payload c.payload.ensures.sealed
