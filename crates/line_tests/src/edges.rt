@@ -4,12 +4,13 @@ use line::depth::Depth;
 use onex::levels::Levels;
 use onex::one_x::OneX;
 use refusal::Refusal;
+use std::alloc::AllocError;
 use std::process::Abort;
 use std::test::Fail;
-use system::duplicates::Duplicates;
 use system::first_else::FirstElse;
 use system::joins::{Joins, first_else};
 use system::system::LineSystem;
+use system::yields::Yields;
 use twox::one_two::one_else_two;
 use twox::two_x::TwoX;
 
@@ -110,13 +111,20 @@ fn levels_and_depths(rt: HostRuntime) -> Result<(), Fail> {
     Ok(())
 }
 
+// A second pair, of any two systems of which second ones can be made.
+fn again<A: Yields<B> + Clone, B: LineSystem + Clone>(
+    pair: &FirstElse<A, B>,
+) -> Result<FirstElse<A, B>, AllocError> {
+    pair.clone()
+}
+
 // The two systems of a pair, a second pair of them, and both given back where their depths differ.
 #[test]
 fn pairs(rt: HostRuntime) -> Result<(), Fail> {
     let (one, two) = (OneX::new(Levels::usual(Depth::Ten)), TwoX::new(Depth::Ten));
-    let pair = one.join(two)?.clone()?;
+    let pair = again(&one.join(two)?)?;
     assert_eq!(rt; *pair.first(), one);
-    assert_eq!(rt; *pair.second(), two.duplicate()?);
+    assert_eq!(rt; *pair.second(), two);
     let apart = FirstElse::of(one, TwoX::new(Depth::Eight));
     assert_eq!(rt; apart.err(), Some((one, TwoX::new(Depth::Eight))));
     Ok(())

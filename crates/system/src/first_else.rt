@@ -1,12 +1,12 @@
 // Two line systems as one: the first, else the second.
-ghost use Rattle.std.specs.Prelude.{◌≡◌, ℕ, ◌||◌, ◌⊎◌, List, length, if◌then◌else◌, None, ⊤};
+ghost use Rattle.std.specs.Prelude.{◌≡◌, ℕ, ◌||◌, ◌⊎◌, List, length, if◌then◌else◌, None};
 ghost use Rattle.std.proofs.Common.{inl, inr, rules};
 ghost use Rattle.system.specs.Either.{found_else};
 ghost use Rattle.std.proofs.lemmas.Bool.{or_left, or_right};
 ghost use Rattle.system.specs.Otherwise.{drawn_by, or_second, found_first, found_second, found_by};
 
-use crate::duplicates::Duplicates;
 use crate::system::LineSystem;
+use crate::yields::Yields;
 use line::depth::Depth;
 use refusal::Refusal;
 use std::alloc::AllocError;
@@ -14,14 +14,14 @@ use std::alloc::AllocError;
 // The system that draws by the first of two systems where that draws the length, else by the second, and reads by the first
 // where that finds a run-in, else by the second. The two have one depth, and the first finds no run-in in a line that the
 // second carries.
-pub struct FirstElse<A: LineSystem, B: LineSystem> {
+pub struct FirstElse<A: Yields<B>, B: LineSystem> {
     pub(crate) first: A,
     pub(crate) second: B,
     ghost depths: { A.LineSystem.depth first ≡ B.LineSystem.depth second },
     ghost apart: { (line p : List ℕ) → B.LineSystem.carries second line p → A.LineSystem.found first line ≡ None },
 }
 
-impl<A: LineSystem, B: LineSystem> FirstElse<A, B> {
+impl<A: Yields<B>, B: LineSystem> FirstElse<A, B> {
     // The system that comes first,
     pub fn first(&self) -> &A
         ensures answer { result.now ≡ self.now.first }
@@ -37,22 +37,27 @@ impl<A: LineSystem, B: LineSystem> FirstElse<A, B> {
     }
 }
 
-// By hand, since no derive takes a ghost field beside type parameters.
-impl<A: Duplicates, B: Duplicates> Clone for FirstElse<A, B> {
-    ghost is_clone = { λ x y. y ≡ x };
+// By hand, since no derive takes a ghost field beside type parameters. Of a system's clone nothing is known but what its own type
+// says, so the two clones are made a pair as any two systems are, and where their depths differ there is none. A pair of the same
+// systems is the same pair.
+impl<A: Yields<B> + Clone, B: LineSystem + Clone> Clone for FirstElse<A, B> {
+    ghost is_clone = { λ x y. A.Clone.is_clone x.first y.first × B.Clone.is_clone x.second y.second × (y.first ≡ x.first → y.second ≡ x.second → y ≡ x) };
 
-    ghost is_infallible = { λ x. A.Duplicates.is_sure x.first × B.Duplicates.is_sure x.second };
+    ghost is_infallible = { λ x. A.Clone.is_infallible x.first × B.Clone.is_infallible x.second × ((a : A) (b : B) → A.Clone.is_clone x.first a → B.Clone.is_clone x.second b → A.LineSystem.depth a ≡ B.LineSystem.depth b) };
 
     fn clone(&self) -> Result<FirstElse<A, B>, AllocError> {
-        let first = self.first.duplicate()?;
-        let second = self.second.duplicate()?;
-        Ok(FirstElse { first, second })
+        let first = self.first.clone()?;
+        let second = self.second.clone()?;
+        match FirstElse::of(first, second) {
+            Ok(pair) => Ok(pair),
+            Err(_) => Err(AllocError),
+        }
     }
 }
 
-impl<A: LineSystem + Copy, B: LineSystem + Copy> Copy for FirstElse<A, B> {}
+impl<A: Yields<B> + Copy, B: LineSystem + Copy> Copy for FirstElse<A, B> {}
 
-impl<A: LineSystem, B: LineSystem> LineSystem for FirstElse<A, B> {
+impl<A: Yields<B>, B: LineSystem> LineSystem for FirstElse<A, B> {
     ghost depth = { λ s. A.LineSystem.depth s.first };
 
     ghost draws = { λ s n. A.LineSystem.draws s.first n || B.LineSystem.draws s.second n };

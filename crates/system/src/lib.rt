@@ -2,7 +2,6 @@
 // all is proved from the laws that every system shows.
 #![tactic(auto)]
 
-pub mod duplicates;
 pub mod first_else;
 pub mod joins;
 pub mod round_trip;

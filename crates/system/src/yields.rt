@@ -11,7 +11,7 @@ pub trait Yields<B: LineSystem>: LineSystem {
 }
 
 // In the first place: first, else second, yields to what both of its systems yield to.
-impl<A: Yields<C>, B: Yields<C>, C: LineSystem> Yields<C> for FirstElse<A, B> {
+impl<A: Yields<B> + Yields<C>, B: Yields<C>, C: LineSystem> Yields<C> for FirstElse<A, B> {
     fn yields(&self, to: &C) {
         self.first.yields(to);
         self.second.yields(to);
@@ -19,7 +19,7 @@ impl<A: Yields<C>, B: Yields<C>, C: LineSystem> Yields<C> for FirstElse<A, B> {
 }
 
 // In the second place: what yields to two systems yields to first, else second, which carries what either carries.
-pub fn yields_to_both<A: Yields<B> + Yields<C>, B: LineSystem, C: LineSystem>(
+pub fn yields_to_both<A: Yields<B> + Yields<C>, B: Yields<C>, C: LineSystem>(
     a: &A,
     to: &FirstElse<B, C>,
 )
