@@ -1,16 +1,15 @@
 // Each refusal at its edge.
+use crate::clones::again;
 use crate::drawn::payload;
 use line::depth::Depth;
 use onex::levels::Levels;
 use onex::one_x::OneX;
 use refusal::Refusal;
-use std::alloc::AllocError;
 use std::process::Abort;
 use std::test::Fail;
 use system::first_else::FirstElse;
 use system::joins::{Joins, first_else};
 use system::system::LineSystem;
-use system::yields::Yields;
 use twox::one_two::one_else_two;
 use twox::two_x::TwoX;
 
@@ -109,13 +108,6 @@ fn levels_and_depths(rt: HostRuntime) -> Result<(), Fail> {
     let one = OneX::new(Levels::new(Depth::Eight, 4, 20)?);
     assert!(rt; first_else(one, TwoX::new(Depth::Ten)).is_err());
     Ok(())
-}
-
-// A second pair, of any two systems of which second ones can be made.
-fn again<A: Yields<B> + Clone, B: LineSystem + Clone>(
-    pair: &FirstElse<A, B>,
-) -> Result<FirstElse<A, B>, AllocError> {
-    pair.clone()
 }
 
 // The two systems of a pair, a second pair of them, and both given back where their depths differ.

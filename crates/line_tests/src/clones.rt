@@ -1,0 +1,57 @@
+// Second pairs of systems.
+use crate::drawn::payload;
+use crate::spare::Spare;
+use line::depth::Depth;
+use onex::levels::Levels;
+use onex::one_x::OneX;
+use std::alloc::AllocError;
+use std::process::Abort;
+use std::test::Fail;
+use system::first_else::FirstElse;
+use system::joins::Joins;
+use system::round_trip::round_trip;
+use system::system::LineSystem;
+use system::yields::Yields;
+use twox::two_x::TwoX;
+
+// A second pair, of any two systems of which second ones can be made.
+pub(crate) fn again<A: Yields<B> + Clone, B: LineSystem + Clone>(
+    pair: &FirstElse<A, B>,
+) -> Result<FirstElse<A, B>, AllocError> {
+    pair.clone()
+}
+
+// 1X, else 2X that its clone has in another depth.
+fn pair_with(depth: Depth, next: Depth) -> Result<FirstElse<OneX, Spare<TwoX>>, Fail> {
+    let spare = Spare {
+        now: TwoX::new(depth),
+        next: TwoX::new(next),
+    };
+    Ok(OneX::new(Levels::usual(depth)).join(spare)?)
+}
+
+#[test]
+fn a_pair_of_systems_that_are_no_copies(rt: HostRuntime) -> Result<(), Fail> {
+    let pair = again(&pair_with(Depth::Ten, Depth::Ten)?)?;
+    assert_eq!(rt; *pair.first(), OneX::new(Levels::usual(Depth::Ten)));
+    assert_eq!(rt; pair.second().now, TwoX::new(Depth::Ten));
+    let bytes = payload();
+    let mut line = [0u16; 240];
+    for length in [30usize, 60] {
+        let mut back = [0u8; 60];
+        let size = length.min(60);
+        assert_eq!(rt;
+            round_trip(&pair, &bytes[..size], &mut line, &mut back),
+            Ok(Some(size))
+        );
+        assert_eq!(rt; back[..size], bytes[..size]);
+    }
+    Ok(())
+}
+
+#[test]
+fn clones_of_two_depths_are_no_pair(rt: HostRuntime) -> Result<(), Fail> {
+    let pair = pair_with(Depth::Ten, Depth::Eight)?;
+    assert!(rt; again(&pair).is_err());
+    Ok(())
+}
