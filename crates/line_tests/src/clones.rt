@@ -21,20 +21,24 @@ pub(crate) fn again<A: Yields<B> + Clone, B: LineSystem + Clone>(
     pair.clone()
 }
 
-// 1X, else 2X that its clone has in another depth.
-fn pair_with(depth: Depth, next: Depth) -> Result<FirstElse<OneX, Spare<TwoX>>, Fail> {
-    let spare = Spare {
-        now: TwoX::new(depth),
-        next: TwoX::new(next),
+// 1X, else 2X at ten bits, of which the clones have other depths.
+fn pair_with(one: Depth, two: Depth) -> Result<FirstElse<Spare<OneX>, Spare<TwoX>>, Fail> {
+    let first = Spare {
+        now: OneX::new(Levels::usual(Depth::Ten)),
+        next: OneX::new(Levels::usual(one)),
     };
-    Ok(OneX::new(Levels::usual(depth)).join(spare)?)
+    let second = Spare {
+        now: TwoX::new(Depth::Ten),
+        next: TwoX::new(two),
+    };
+    Ok(first.join(second)?)
 }
 
 #[test]
 fn a_pair_of_systems_that_are_no_copies(rt: HostRuntime) -> Result<(), Fail> {
-    let pair = again(&pair_with(Depth::Ten, Depth::Ten)?)?;
-    assert_eq!(rt; *pair.first(), OneX::new(Levels::usual(Depth::Ten)));
-    assert_eq!(rt; pair.second().now, TwoX::new(Depth::Ten));
+    let pair = again(&pair_with(Depth::Eight, Depth::Eight)?)?;
+    assert_eq!(rt; pair.first().now, OneX::new(Levels::usual(Depth::Eight)));
+    assert_eq!(rt; pair.second().now, TwoX::new(Depth::Eight));
     let bytes = payload();
     let mut line = [0u16; 240];
     for length in [30usize, 60] {
@@ -51,7 +55,8 @@ fn a_pair_of_systems_that_are_no_copies(rt: HostRuntime) -> Result<(), Fail> {
 
 #[test]
 fn clones_of_two_depths_are_no_pair(rt: HostRuntime) -> Result<(), Fail> {
-    let pair = pair_with(Depth::Ten, Depth::Eight)?;
-    assert!(rt; again(&pair).is_err());
+    for (one, two) in [(Depth::Ten, Depth::Eight), (Depth::Eight, Depth::Ten)] {
+        assert!(rt; again(&pair_with(one, two)?).is_err());
+    }
     Ok(())
 }

@@ -73,8 +73,8 @@ impl<S: LineSystem> LineSystem for Spare<S> {
     }
 }
 
-impl Yields<Spare<TwoX>> for OneX {
+impl Yields<Spare<TwoX>> for Spare<OneX> {
     fn yields(&self, to: &Spare<TwoX>) {
-        self.yields(&to.now);
+        self.now.yields(&to.now);
     }
 }
