@@ -5,6 +5,7 @@ use line::depth::Depth;
 use onex::levels::Levels;
 use onex::one_x::OneX;
 use std::alloc::AllocError;
+use std::marker::PhantomData;
 use std::process::Abort;
 use std::test::Fail;
 use system::first_else::FirstElse;
@@ -21,22 +22,27 @@ pub(crate) fn again<A: Yields<B> + Clone, B: LineSystem + Clone>(
     pair.clone()
 }
 
+// The mark of systems that are no copies.
+struct Single;
+
 // 1X, else 2X at ten bits, of which the clones have other depths.
-fn pair_with(one: Depth, two: Depth) -> Result<FirstElse<Spare<OneX>, Spare<TwoX>>, Fail> {
+fn pair_with<M>(one: Depth, two: Depth) -> Result<FirstElse<Spare<OneX, M>, Spare<TwoX, M>>, Fail> {
     let first = Spare {
         now: OneX::new(Levels::usual(Depth::Ten)),
         next: OneX::new(Levels::usual(one)),
+        mark: PhantomData,
     };
     let second = Spare {
         now: TwoX::new(Depth::Ten),
         next: TwoX::new(two),
+        mark: PhantomData,
     };
     Ok(first.join(second)?)
 }
 
 #[test]
 fn a_pair_of_systems_that_are_no_copies(rt: HostRuntime) -> Result<(), Fail> {
-    let pair = again(&pair_with(Depth::Eight, Depth::Eight)?)?;
+    let pair = again(&pair_with::<Single>(Depth::Eight, Depth::Eight)?)?;
     assert_eq!(rt; pair.first().now, OneX::new(Levels::usual(Depth::Eight)));
     assert_eq!(rt; pair.second().now, TwoX::new(Depth::Eight));
     let bytes = payload();
@@ -56,7 +62,20 @@ fn a_pair_of_systems_that_are_no_copies(rt: HostRuntime) -> Result<(), Fail> {
 #[test]
 fn clones_of_two_depths_are_no_pair(rt: HostRuntime) -> Result<(), Fail> {
     for (one, two) in [(Depth::Ten, Depth::Eight), (Depth::Eight, Depth::Ten)] {
-        assert!(rt; again(&pair_with(one, two)?).is_err());
+        assert!(rt; again(&pair_with::<Single>(one, two)?).is_err());
     }
+    Ok(())
+}
+
+// Whatever the clones of its systems are, a copy of a pair is the pair.
+#[test]
+fn a_pair_that_is_copied(rt: HostRuntime) -> Result<(), Fail> {
+    let pair = pair_with::<()>(Depth::Eight, Depth::Ten)?;
+    assert!(rt; again(&pair).is_err());
+    let same = pair.copied();
+    assert_eq!(rt; same.first().now, OneX::new(Levels::usual(Depth::Ten)));
+    assert_eq!(rt; same.first().next, OneX::new(Levels::usual(Depth::Eight)));
+    assert_eq!(rt; same.second().now, TwoX::new(Depth::Ten));
+    assert_eq!(rt; same.second().next, TwoX::new(Depth::Ten));
     Ok(())
 }

@@ -1,35 +1,40 @@
-// A system that is Clone and not Copy.
+// A system of which a clone is another, and a copy is the same.
 ghost use Rattle.std.specs.Prelude.{◌≡◌, ⊤};
 
 use line::depth::Depth;
 use onex::one_x::OneX;
 use refusal::Refusal;
 use std::alloc::AllocError;
+use std::marker::PhantomData;
 use system::system::LineSystem;
 use system::yields::Yields;
 use twox::two_x::TwoX;
 
-// A system beside another, which its clone goes over to: so a clone may have another depth.
+// A system beside another, which its clone goes over to: so a clone may have another depth. It is Copy where its mark `M` is.
 #[derive(Drop)]
-pub struct Spare<S> {
+pub struct Spare<S, M> {
     pub(crate) now: S,
     pub(crate) next: S,
+    pub(crate) mark: PhantomData<M>,
 }
 
-impl<S: Copy> Clone for Spare<S> {
+impl<S: Copy, M> Clone for Spare<S, M> {
     ghost is_clone = { λ x y. (y.now ≡ x.next) × (y.next ≡ x.next) };
 
     ghost is_infallible = { λ _. ⊤ };
 
-    fn clone(&self) -> Result<Spare<S>, AllocError> {
+    fn clone(&self) -> Result<Spare<S, M>, AllocError> {
         Ok(Spare {
             now: self.next,
             next: self.next,
+            mark: PhantomData,
         })
     }
 }
 
-impl<S: LineSystem> LineSystem for Spare<S> {
+impl<S: Copy, M: Copy> Copy for Spare<S, M> {}
+
+impl<S: LineSystem, M> LineSystem for Spare<S, M> {
     ghost depth = { λ s. S.LineSystem.depth s.now };
 
     ghost draws = { λ s. S.LineSystem.draws s.now };
@@ -73,8 +78,8 @@ impl<S: LineSystem> LineSystem for Spare<S> {
     }
 }
 
-impl Yields<Spare<TwoX>> for Spare<OneX> {
-    fn yields(&self, to: &Spare<TwoX>) {
+impl<M> Yields<Spare<TwoX, M>> for Spare<OneX, M> {
+    fn yields(&self, to: &Spare<TwoX, M>) {
         self.now.yields(&to.now);
     }
 }

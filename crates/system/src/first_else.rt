@@ -57,6 +57,15 @@ impl<A: Yields<B> + Clone, B: LineSystem + Clone> Clone for FirstElse<A, B> {
 
 impl<A: Yields<B> + Copy, B: LineSystem + Copy> Copy for FirstElse<A, B> {}
 
+impl<A: Yields<B> + Copy, B: LineSystem + Copy> FirstElse<A, B> {
+    // The same pair once more, and never without memory: the systems are copied, and their own clones, which may say less, are not asked.
+    pub fn copied(&self) -> FirstElse<A, B>
+        ensures answer { result ≡ self.now }
+    {
+        *self
+    }
+}
+
 impl<A: Yields<B>, B: LineSystem> LineSystem for FirstElse<A, B> {
     ghost depth = { λ s. A.LineSystem.depth s.first };
 
