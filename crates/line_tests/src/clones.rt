@@ -22,11 +22,11 @@ pub(crate) fn again<A: Yields<B> + Clone, B: LineSystem + Clone>(
     pair.clone()
 }
 
-// The mark of systems that are no copies.
-struct Single;
-
-// 1X, else 2X at ten bits, of which the clones have other depths.
-fn pair_with<M>(one: Depth, two: Depth) -> Result<FirstElse<Spare<OneX, M>, Spare<TwoX, M>>, Fail> {
+// 1X, else 2X at ten bits, of which the clones have other depths,
+fn marked_pair<M>(
+    one: Depth,
+    two: Depth,
+) -> Result<FirstElse<Spare<OneX, M>, Spare<TwoX, M>>, Fail> {
     let first = Spare {
         now: OneX::new(Levels::usual(Depth::Ten)),
         next: OneX::new(Levels::usual(one)),
@@ -40,9 +40,14 @@ fn pair_with<M>(one: Depth, two: Depth) -> Result<FirstElse<Spare<OneX, M>, Spar
     Ok(first.join(second)?)
 }
 
+// and of systems that are no copies.
+fn pair_with(one: Depth, two: Depth) -> Result<FirstElse<Spare<OneX>, Spare<TwoX>>, Fail> {
+    marked_pair(one, two)
+}
+
 #[test]
 fn a_pair_of_systems_that_are_no_copies(rt: HostRuntime) -> Result<(), Fail> {
-    let pair = again(&pair_with::<Single>(Depth::Eight, Depth::Eight)?)?;
+    let pair = again(&pair_with(Depth::Eight, Depth::Eight)?)?;
     assert_eq!(rt; pair.first().now, OneX::new(Levels::usual(Depth::Eight)));
     assert_eq!(rt; pair.second().now, TwoX::new(Depth::Eight));
     let bytes = payload();
@@ -62,20 +67,22 @@ fn a_pair_of_systems_that_are_no_copies(rt: HostRuntime) -> Result<(), Fail> {
 #[test]
 fn clones_of_two_depths_are_no_pair(rt: HostRuntime) -> Result<(), Fail> {
     for (one, two) in [(Depth::Ten, Depth::Eight), (Depth::Eight, Depth::Ten)] {
-        assert!(rt; again(&pair_with::<Single>(one, two)?).is_err());
+        assert!(rt; again(&pair_with(one, two)?).is_err());
     }
     Ok(())
 }
 
-// Whatever the clones of its systems are, a copy of a pair is the pair.
+// Whatever the clones of its systems are, and where they are no pair, a copy of a pair is the pair.
 #[test]
 fn a_pair_that_is_copied(rt: HostRuntime) -> Result<(), Fail> {
-    let pair = pair_with::<()>(Depth::Eight, Depth::Ten)?;
-    assert!(rt; again(&pair).is_err());
-    let same = pair.copied();
-    assert_eq!(rt; same.first().now, OneX::new(Levels::usual(Depth::Ten)));
-    assert_eq!(rt; same.first().next, OneX::new(Levels::usual(Depth::Eight)));
-    assert_eq!(rt; same.second().now, TwoX::new(Depth::Ten));
-    assert_eq!(rt; same.second().next, TwoX::new(Depth::Ten));
+    for next in [Depth::Eight, Depth::Ten] {
+        let pair = marked_pair::<()>(Depth::Eight, next)?;
+        assert_eq!(rt; again(&pair).is_ok(), next == Depth::Eight);
+        let same = pair.copied();
+        assert_eq!(rt; same.first().now, OneX::new(Levels::usual(Depth::Ten)));
+        assert_eq!(rt; same.first().next, OneX::new(Levels::usual(Depth::Eight)));
+        assert_eq!(rt; same.second().now, TwoX::new(Depth::Ten));
+        assert_eq!(rt; same.second().next, TwoX::new(next));
+    }
     Ok(())
 }

@@ -10,9 +10,12 @@ use system::system::LineSystem;
 use system::yields::Yields;
 use twox::two_x::TwoX;
 
-// A system beside another, which its clone goes over to: so a clone may have another depth. It is Copy where its mark `M` is.
+// The mark of a system that is Clone and not Copy.
+pub struct Single;
+
+// A system beside another, which its clone goes over to: so a clone may have another depth. It is Copy where its mark is.
 #[derive(Drop)]
-pub struct Spare<S, M> {
+pub struct Spare<S, M = Single> {
     pub(crate) now: S,
     pub(crate) next: S,
     pub(crate) mark: PhantomData<M>,

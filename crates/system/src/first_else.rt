@@ -58,7 +58,7 @@ impl<A: Yields<B> + Clone, B: LineSystem + Clone> Clone for FirstElse<A, B> {
 impl<A: Yields<B> + Copy, B: LineSystem + Copy> Copy for FirstElse<A, B> {}
 
 impl<A: Yields<B> + Copy, B: LineSystem + Copy> FirstElse<A, B> {
-    // The same pair once more, and never without memory: the systems are copied, and their own clones, which may say less, are not asked.
+    // The same pair once more, and never without memory: the systems are copied, and not asked for clones, which may say less.
     pub fn copied(&self) -> FirstElse<A, B>
         ensures answer { result ≡ self.now }
     {
